@@ -1,11 +1,7 @@
 -- The ranges of the numbers of a job, and the status where the words of a command line give none.
 use Rattle.std.specs.Prelude.{◌≤◌, ◌<◌, ℕ}
-use Rattle.clap.specs.declared.error.kind.ErrorKind.{ErrorKind}
-use Rattle.clap.specs.declared.error.kind.ErrorKind.TheVariants.{DisplayHelp, DisplayVersion, OutOfMemory}
-use Rattle.mlt_cli.specs.declared.words.Connections.{Connections}
-use Rattle.mlt_cli.specs.declared.words.Connections.TheVariants.{Limit, Endless}
-use Rattle.mlt_cli.specs.declared.words.Times.{Times}
-use Rattle.mlt_cli.specs.declared.words.Job.{Job}
+use Rattle.clap.specs.declared.error.kind.ErrorKind.{ErrorKind, TheVariants.DisplayHelp, TheVariants.DisplayVersion, TheVariants.OutOfMemory}
+use Rattle.mlt_cli.specs.declared.words.{Connections.Connections, Connections.TheVariants.Limit, Connections.TheVariants.Endless, Times.Times, Job.Job}
 
 -- each is at most a day, in seconds
 abbrev pub AreWithinDay : Times → Type 0

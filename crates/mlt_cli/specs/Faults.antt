@@ -1,8 +1,6 @@
 -- The line that tells of a fault, and the status that the program ends with.
 use Rattle.std.specs.Prelude.{ℕ, List, [], ◌∷◌, ◌++◌, codes, Result, Ok, Err, decimal}
-use Rattle.mlt_types.specs.declared.refusal.Refusal.{Refusal}
-use Rattle.mlt_types.specs.declared.refusal.Refusal.TheVariants.{ScriptFault, TraceFault}
-use Rattle.mlt_types.specs.Refusals.{number_of, name_of, script_cause_name, trace_cause_name}
+use Rattle.mlt_types.specs.{declared.refusal.Refusal.Refusal, declared.refusal.Refusal.TheVariants.ScriptFault, declared.refusal.Refusal.TheVariants.TraceFault, Refusals.number_of, Refusals.name_of, Refusals.script_cause_name, Refusals.trace_cause_name}
 
 -- the line of the input, and what is wrong with it
 abbrev pub place_text : Refusal → List ℕ

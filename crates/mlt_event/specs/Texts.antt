@@ -1,10 +1,8 @@
 -- The texts of what events are told.
 use Rattle.std.specs.Prelude.{ℕ, List, ◌∷◌, ◌++◌, codes, true, false}
-use Rattle.mlt_types.specs.declared.refusal.Refusal.{Refusal}
-use Rattle.mlt_types.specs.Refusals.{number_of, name_of}
+use Rattle.mlt_types.specs.{declared.refusal.Refusal.Refusal, Refusals.number_of, Refusals.name_of}
 use Rattle.mlt_object_kinds.specs.Texts.{with_number, reply_text}
-use Rattle.mlt_event.specs.declared.answer.Answer.{Answer}
-use Rattle.mlt_event.specs.declared.told.Told.{Told}
+use Rattle.mlt_event.specs.declared.{answer.Answer.Answer, told.Told.Told}
 
 -- a refusal: its number and its name
 abbrev pub refusal_text : Refusal → List ℕ

@@ -1,18 +1,10 @@
 -- The next line of a text.
 use Rattle.std.proofs.Common.{◌≡◌, ℕ, suc, zero, ◌+◌, ◌-◌, ◌<◌, ◌≤◌, List, [], ◌∷◌, ◌++◌, length, take, drop, get_or, true, false, Some, None, refl, sym, ap, ◌∙◌, arith, append-nil, length-take, length-append, append_assoc, take-append-drop, add-one, position, flat_map, lt-ltb, le-ltb}
-use Rattle.std.specs.List.{list_all}
-use Rattle.std.proofs.lemmas.List.Concat.{flat_map-cons}
-use Rattle.std.proofs.lemmas.List.Quantifiers.{position-Some}
-use Rattle.std.proofs.Math.Seq.{take-append_seam}
+use Rattle.std.{specs.List.list_all, proofs.lemmas.List.Concat.flat_map-cons, proofs.lemmas.List.Quantifiers.position-Some, proofs.Math.Seq.take-append_seam}
 use Rattle.mlt_event_text.specs.Inputs.{IsNext, NextLine, Splits, heard, lines_of}
-use Rattle.mlt_event_text.specs.Commands.{command_of}
-use Rattle.mlt_event_text.specs.declared.session_line.SessionLine.{SessionLine}
-use Rattle.mlt_event_text.specs.declared.session_line.SessionLine.TheVariants.{Says, TooLong}
-use Rattle.mlt_event_text.specs.declared.command.Command.{Command}
-use Rattle.mlt_text_words.specs.Fronts.{is_printable}
+use Rattle.mlt_event_text.specs.{Commands.command_of, declared.session_line.SessionLine.SessionLine, declared.session_line.SessionLine.TheVariants.Says, declared.session_line.SessionLine.TheVariants.TooLong, declared.command.Command.Command}
+use Rattle.mlt_text_words.{specs.Fronts.is_printable, proofs.Allowed.all_allowed, proofs.Allowed.no_cr, proofs.Cutting.at_lf, proofs.Cutting.at_other, proofs.Cutting.line_cut, proofs.Cutting.not_found}
 use Rattle.mlt_text_words.specs.Lines.{Raw, lines, onto, is_lf, without_cr}
-use Rattle.mlt_text_words.proofs.Allowed.{all_allowed, no_cr}
-use Rattle.mlt_text_words.proofs.Cutting.{at_lf, at_other, line_cut, not_found}
 
 up_to : (text more : List ℕ) (i : ℕ) → i < length text → is_lf (get_or text i 0) ≡ true → ((k : ℕ) → k < i → is_lf (get_or text k 0) ≡ false)
     → lines (take (suc i) text ++ more) ≡ record { bytes = take i text; ended = true } ∷ lines more

@@ -1,16 +1,10 @@
 -- Each text is events or has a first fault, and just one of these.
 use Rattle.std.proofs.Common.{◌≡◌, ℕ, ◌+◌, List, [], ◌∷◌, ◌++◌, length, ◌⊎◌, inl, inr, Result, Ok, Err, refl, sym, ap, subst, ◌∙◌, arith, IsErrAnd, MatchResult}
 use Rattle.std.proofs.lemmas.List.Elements.{All-cons, All-head, All-nil, All-tail}
-use Rattle.mlt_types.specs.declared.refusal.Refusal.{Refusal}
-use Rattle.mlt_types.specs.declared.refusal.Refusal.TheVariants.{OutOfMemory, ScriptFault}
-use Rattle.mlt_types.specs.declared.refusal.ScriptCause.{ScriptCause}
+use Rattle.mlt_types.specs.declared.refusal.{Refusal.Refusal, Refusal.TheVariants.OutOfMemory, Refusal.TheVariants.ScriptFault, ScriptCause.ScriptCause}
 use Rattle.mlt_event.specs.declared.event.Event.{Event}
-use Rattle.mlt_event_text.specs.declared.line.EventReading.{EventReading}
-use Rattle.mlt_event_text.specs.declared.line.EventReading.TheVariants.{Bad, Skip, Asks}
-use Rattle.mlt_event_text.specs.Answering.{Answers}
+use Rattle.mlt_event_text.{specs.declared.line.EventReading.EventReading, specs.declared.line.EventReading.TheVariants.Bad, specs.declared.line.EventReading.TheVariants.Skip, specs.declared.line.EventReading.TheVariants.Asks, specs.Answering.Answers, specs.Readings.reading, proofs.Going.bad_line}
 use Rattle.mlt_event_text.specs.Grammar.{AreEvents, AreLawful, IsDecided, IsFault, IsFirstFault, IsFirstFaultOf, IsLawful, IsNoFault, Spells, events_of}
-use Rattle.mlt_event_text.specs.Readings.{reading}
-use Rattle.mlt_event_text.proofs.Going.{bad_line}
 use Rattle.mlt_text_words.specs.Lines.{Raw, lines}
 
 -- the lines are events, or have a first fault

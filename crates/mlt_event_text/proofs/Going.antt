@@ -1,20 +1,12 @@
 -- A text that is gone over line by line.
 use Rattle.std.proofs.Common.{◌≡◌, ℕ, ◌+◌, Bool, true, false, cond, List, [], ◌∷◌, ◌++◌, length, Option, Some, None, nat_lt, sym, ap, subst, ◌∙◌, append_assoc, length-append, append-nil}
-use Rattle.std.proofs.lemmas.List.{flat_map_more}
-use Rattle.std.proofs.lemmas.List.Elements.{All-push}
-use Rattle.std.specs.List.{list_all}
+use Rattle.std.{proofs.lemmas.List.flat_map_more, proofs.lemmas.List.Elements.All-push, specs.List.list_all}
 use Rattle.mlt_types.specs.declared.refusal.ScriptCause.{ScriptCause}
 use Rattle.mlt_event.specs.declared.event.Event.{Event}
-use Rattle.mlt_event_text.specs.declared.forms.Asked.{Asked}
-use Rattle.mlt_event_text.specs.declared.line.EventReading.{EventReading}
-use Rattle.mlt_event_text.specs.declared.line.EventReading.TheVariants.{Bad, Skip, Asks}
-use Rattle.mlt_event_text.specs.Answering.{WentOver}
-use Rattle.mlt_event_text.specs.Forms.{asked_by}
+use Rattle.mlt_event_text.specs.{declared.forms.Asked.Asked, declared.line.EventReading.EventReading, declared.line.EventReading.TheVariants.Bad, declared.line.EventReading.TheVariants.Skip, declared.line.EventReading.TheVariants.Asks, Answering.WentOver, Forms.asked_by, Readings.asked_or_fault, Readings.reading, Readings.said_by}
 use Rattle.mlt_event_text.specs.Grammar.{AreEvents, IsFault, IsLawful, Spells, events_of}
-use Rattle.mlt_event_text.specs.Readings.{asked_or_fault, reading, said_by}
 use Rattle.mlt_text_words.specs.Lines.{Raw, lines, content, is_comment, is_allowed}
-use Rattle.mlt_text_words.specs.Words.{raw_words}
-use Rattle.mlt_text_words.proofs.Cutting.{no_lines}
+use Rattle.mlt_text_words.{specs.Words.raw_words, proofs.Cutting.no_lines}
 
 -- ---- the faults of lines
 

@@ -1,18 +1,9 @@
 -- The next line of a text, where it is of the plain form.
 use Rattle.std.proofs.Common.{◌≡◌, ℕ, ◌-◌, List, [], ◌∷◌, ◌++◌, length, map, Some, None, option_and_then, codes, refl, sym, ap, ◌∙◌, append-nil, arith}
 use Rattle.mlt_object_kinds.specs.declared.operation.ObjOp.{ObjOp}
-use Rattle.mlt_event_text.specs.declared.command.Command.{Command}
-use Rattle.mlt_event_text.specs.Commands.{asked, command_of, op_command}
-use Rattle.mlt_event_text.specs.Forms.{no_more, only_op}
-use Rattle.mlt_event_text.specs.Inputs.{NextLine}
-use Rattle.mlt_event_text.specs.declared.session_line.SessionLine.TheVariants.{Says}
-use Rattle.mlt_event_text.proofs.Cutting.{next_plain}
-use Rattle.mlt_script.specs.Forms.{asking_at, key_at, op_at}
-use Rattle.mlt_script.specs.Plain.{BeginsWithOp}
-use Rattle.mlt_text_words.specs.Words.{raw_words, word_of, words_from, words_of}
-use Rattle.mlt_text_words.specs.declared.keyword.Word.{Word}
-use Rattle.mlt_text_words.specs.declared.keyword.Word.TheVariants.{Key, Variable, Number, Other}
-use Rattle.mlt_text_words.proofs.Pieces.{at_most}
+use Rattle.mlt_event_text.{specs.declared.command.Command.Command, specs.Commands.asked, specs.Commands.command_of, specs.Commands.op_command, specs.Forms.no_more, specs.Forms.only_op, specs.Inputs.NextLine, specs.declared.session_line.SessionLine.TheVariants.Says, proofs.Cutting.next_plain}
+use Rattle.mlt_script.specs.{Forms.asking_at, Forms.key_at, Forms.op_at, Plain.BeginsWithOp}
+use Rattle.mlt_text_words.{specs.Words.raw_words, specs.Words.word_of, specs.Words.words_from, specs.Words.words_of, specs.declared.keyword.Word.Word, specs.declared.keyword.Word.TheVariants.Key, specs.declared.keyword.Word.TheVariants.Variable, specs.declared.keyword.Word.TheVariants.Number, specs.declared.keyword.Word.TheVariants.Other, proofs.Pieces.at_most}
 
 -- an operation has a number behind its keyword
 one_word : (w : Word) → op_at (w ∷ []) ≡ None

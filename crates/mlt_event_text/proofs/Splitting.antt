@@ -1,8 +1,6 @@
 -- The lines of inputs that are parts of one.
 use Rattle.std.proofs.Common.{◌≡◌, List, ℕ, [], ◌++◌, sym, ap, ◌∙◌, append_assoc}
-use Rattle.mlt_event_text.specs.Inputs.{lines_of, Splits, Begins}
-use Rattle.mlt_event_text.specs.declared.session_line.SessionLine.{SessionLine}
-use Rattle.mlt_event_text.proofs.Cutting.{empty}
+use Rattle.mlt_event_text.{specs.Inputs.lines_of, specs.Inputs.Splits, specs.Inputs.Begins, specs.declared.session_line.SessionLine.SessionLine, proofs.Cutting.empty}
 
 pub splits_none : Splits []
 splits_none more = ap (λ (ls : List SessionLine). ls ++ lines_of more) (sym empty)

@@ -1,7 +1,6 @@
 -- What the reading of a text answers, line by line.
 use Rattle.std.specs.Prelude.{◌≡◌, ℕ, List, ◌++◌, length, Result, Ok, Err}
-use Rattle.mlt_types.specs.declared.refusal.Refusal.{Refusal}
-use Rattle.mlt_types.specs.declared.refusal.Refusal.TheVariants.{OutOfMemory, ScriptFault}
+use Rattle.mlt_types.specs.declared.refusal.Refusal.{Refusal, TheVariants.OutOfMemory, TheVariants.ScriptFault}
 use Rattle.mlt_event.specs.declared.event.Event.{Event}
 use Rattle.mlt_event_text.specs.Grammar.{AreEvents, IsFault, IsFirstFault, IsLawful, Spells, events_of}
 use Rattle.mlt_text_words.specs.Lines.{Raw, lines}

@@ -1,8 +1,7 @@
 -- What a line of a session asks.
 use Rattle.std.specs.Prelude.{ℕ, List, [], ◌∷◌, Option, Some, None, if◌then◌else◌, codes, bytes_eq}
-use Rattle.mlt_event_text.specs.Forms.{only_op}
+use Rattle.mlt_event_text.specs.{Forms.only_op, declared.command.Command.Command}
 use Rattle.mlt_object_kinds.specs.declared.operation.ObjOp.{ObjOp}
-use Rattle.mlt_event_text.specs.declared.command.Command.{Command}
 use Rattle.mlt_text_words.specs.Words.{raw_words, words_of}
 
 -- what a word asks that is alone on its line

@@ -5,9 +5,7 @@ use Rattle.mlt_event.specs.declared.event.Event.TheVariants.{Begin, Call, Step, 
 use Rattle.mlt_event_text.specs.declared.forms.Asked.{Asked}
 use Rattle.mlt_object_kinds.specs.declared.operation.ObjOp.{ObjOp}
 use Rattle.mlt_script.specs.Forms.{◌>>=◌, op_at}
-use Rattle.mlt_text_words.specs.declared.keyword.Word.{Word}
-use Rattle.mlt_text_words.specs.Numbers.{number_of}
-use Rattle.mlt_text_words.specs.Words.{first_word, word_of}
+use Rattle.mlt_text_words.specs.{declared.keyword.Word.Word, Numbers.number_of, Words.first_word, Words.word_of}
 
 -- a number below 2^64, and the words after it
 unfoldable pub number_at : List (List ℕ) → Option (ℕ × List (List ℕ))

@@ -2,9 +2,7 @@
 use Rattle.std.specs.Prelude.{◌≡◌, ℕ, ◌+◌, List, [], ◌∷◌, ◌++◌, length, replicate, All, ◌⊎◌, flat_map}
 use Rattle.mlt_types.specs.declared.refusal.ScriptCause.{ScriptCause}
 use Rattle.mlt_event.specs.declared.event.Event.{Event}
-use Rattle.mlt_event_text.specs.declared.line.EventReading.{EventReading}
-use Rattle.mlt_event_text.specs.declared.line.EventReading.TheVariants.{Bad, Skip, Asks}
-use Rattle.mlt_event_text.specs.Readings.{reading}
+use Rattle.mlt_event_text.specs.{declared.line.EventReading.EventReading, declared.line.EventReading.TheVariants.Bad, declared.line.EventReading.TheVariants.Skip, declared.line.EventReading.TheVariants.Asks, Readings.reading}
 use Rattle.mlt_text_words.specs.Lines.{Raw, lines}
 
 abbrev pub IsNoFault : EventReading → Type 0

@@ -1,8 +1,6 @@
 -- The lines of an input.
 use Rattle.std.specs.Prelude.{◌≡◌, ◌<◌, ◌≤◌, ℕ, List, [], ◌∷◌, ◌++◌, length, take, Option, Some, None, nat_lt, if◌then◌else◌, flat_map}
-use Rattle.mlt_event_text.specs.Commands.{command_of}
-use Rattle.mlt_event_text.specs.declared.session_line.SessionLine.{SessionLine}
-use Rattle.mlt_event_text.specs.declared.session_line.SessionLine.TheVariants.{Says, TooLong}
+use Rattle.mlt_event_text.specs.{Commands.command_of, declared.session_line.SessionLine.SessionLine, declared.session_line.SessionLine.TheVariants.Says, declared.session_line.SessionLine.TheVariants.TooLong}
 use Rattle.mlt_text_words.specs.Lines.{Raw, lines, without_cr}
 
 -- a line of more than 200 bytes is too long, whether an LF ends it or not; bytes after the last LF are else no line

@@ -2,12 +2,8 @@
 use Rattle.std.specs.Prelude.{ℕ, List, [], ◌∷◌, length, nat_lt, Option, Some, None, if◌then◌else◌}
 use Rattle.std.specs.List.{list_all}
 use Rattle.mlt_types.specs.declared.refusal.ScriptCause.{ScriptCause}
-use Rattle.mlt_event_text.specs.declared.forms.Asked.{Asked}
-use Rattle.mlt_event_text.specs.declared.line.EventReading.{EventReading}
-use Rattle.mlt_event_text.specs.declared.line.EventReading.TheVariants.{Bad, Skip, Asks}
-use Rattle.mlt_event_text.specs.Forms.{asked_by}
-use Rattle.mlt_text_words.specs.Lines.{Raw, content, is_comment, is_allowed}
-use Rattle.mlt_text_words.specs.Words.{raw_words}
+use Rattle.mlt_event_text.specs.{declared.forms.Asked.Asked, declared.line.EventReading.EventReading, declared.line.EventReading.TheVariants.Bad, declared.line.EventReading.TheVariants.Skip, declared.line.EventReading.TheVariants.Asks, Forms.asked_by}
+use Rattle.mlt_text_words.specs.{Lines.Raw, Lines.content, Lines.is_comment, Lines.is_allowed, Words.raw_words}
 
 abbrev pub asked_or_fault : Option Asked → EventReading
 asked_or_fault (Some asked) = Asks asked

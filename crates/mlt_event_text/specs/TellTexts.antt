@@ -1,7 +1,6 @@
 -- The text of what events are told.
 use Rattle.std.specs.Prelude.{ℕ, List, [], ◌∷◌, ◌++◌, flat_map}
-use Rattle.mlt_event.specs.declared.told.Told.{Told}
-use Rattle.mlt_event.specs.Texts.{tell_text}
+use Rattle.mlt_event.specs.{declared.told.Told.Told, Texts.tell_text}
 
 -- what one event is told, and the end of its line
 abbrev pub told_line : Told → List ℕ

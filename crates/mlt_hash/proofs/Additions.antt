@@ -1,10 +1,7 @@
 -- An addition in place: in the slot of the transaction's own ghost, or in one with room
 use Rattle.std.proofs.Common.{◌≡◌, ℕ, Bool, true, false, List, Option, Some, None, refl, sym, ap, subst, ◌∙◌, inl, inr, position, slice_index_or}
 use Rattle.mlt_hash.proofs.Names.{false≢true, Exclusive, is_ghost_of, is_kept, is_live_of, Slot, Free, Live, BucketFields, can_write, value_in, LocalState, ReadsHeldBucket, View, WritesPage, view_of, IsNowhere, SetsFirst, WriteFields, has_room, planned_page, slot_after, WalkContext, FoundBefore, Stands, StoodBefore, WalkFields, nothing_before, view_for, IsAtAbsent, IsAtBucketPhase, IsFull, Makes, PlansSlot, RevivesFirst, SeesBucket, TellsOfChange, TellsOfWrite, directory_depth_of, page_of, Change, WalkAnswer}
-use Rattle.std.proofs.lemmas.Bool.{not-false, not-true}
-use Rattle.std.proofs.lemmas.List.Elements.{All-from_get_or}
-use Rattle.std.proofs.lemmas.List.Sums.{list_all-from_AllPass}
-use Rattle.std.proofs.lemmas.List.Quantifiers.{position-Some}
+use Rattle.std.proofs.lemmas.{Bool.not-false, Bool.not-true, List.Elements.All-from_get_or, List.Sums.list_all-from_AllPass, List.Quantifiers.position-Some}
 use Rattle.mlt_hash.specs.Changes.{FillsFirst, HasOwnGhost, TakesSlot, TellsOfAddition}
 use Rattle.mlt_hash.proofs.InPlace.{ReadsBucket, WritesPlan, absent_at, at_bucket_without, found_there, makes_change, may_write_bucket, no_live_slot, plan_reads, plans_slot, same_bucket, write_cases}
 

@@ -1,11 +1,9 @@
 -- The pages that a walk holds on its way stand in a list with those of the directory
 use Rattle.std.proofs.Common.{◌≡◌, ℕ, zero, suc, ◌<◌, ◌≤◌, ◌+◌, ◌-◌, ◌/◌, ◌^◌, true, eqb, ◌||◌, List, [], ◌∷◌, length, is_some, refl, sym, ap, subst, ◌∙◌, inl, inr, arith, ◌≢◌, slice_index, nat_cmp, eq-eqb}
-use Rattle.std.specs.List.{list_any}
+use Rattle.std.{specs.List.list_any, proofs.Math.Bool.or-true}
 use Rattle.std.specs.FinMap as map
 use Rattle.mlt_hash.proofs.Names.{cases_eq, cases_lt, false≢true, Mode, first_bits, HeadFields, Modes, with_page, dir_of, View, mode_of_others, Before, GoesAfter, HoldsBeside, nothing_before, Pass}
-use Rattle.std.proofs.Math.Bool.{or-true}
-use Rattle.mlt_hash_form.proofs.Bits.{first_bits_below}
-use Rattle.mlt_hash_form.proofs.FillEnds.{page_listed}
+use Rattle.mlt_hash_form.proofs.{Bits.first_bits_below, FillEnds.page_listed}
 use Rattle.mlt_hash_split.specs.Rests.{HoldsAmong, IsIn}
 use Rattle.mlt_hash_split.proofs.Among.{among_after_lock, among_after_make, among_still, few_are_held, few_pages}
 

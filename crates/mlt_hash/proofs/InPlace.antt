@@ -2,20 +2,10 @@
 use Rattle.std.proofs.Common.{◌≡◌, ℕ, ◌<◌, ◌≤◌, ◌+◌, ◌^◌, Bool, true, List, Option, Some, None, is_some, refl, sym, ap, subst, ◌∙◌, arith, IsSome, position, slice_index_or, unwrap_or, option_map}
 use Rattle.std.specs.FinMap as map
 use Rattle.mlt_hash.proofs.Names.{false≢true, Refusal, Exclusive, is_live_of, Slot, Free, Ghost, Live, Page, page_with_slot, BucketFields, Modes, can_write, with_page, stronger_exclusive, IsHome, HasForm, IsPath, dir_of, value_in, Agrees, RearrangesSlots, over, own_or_clean, keeps_none, LocalState, HasWritten, ReadsHeldBucket, View, WritesPage, view_of, over_since, reads_over_writes, reads_since, may_write, mode_of_page, write_writes, writes_over_clean, IsNowhere, SetsFirst, WriteFields, bucket_mode, directory_held, slot_after, WalkContext, Before, FoundBefore, HoldsBeside, IsAtBucket, IsChanged, MayWalk, Stands, StoodBefore, WalkFields, nothing_before, view_for, IsAtAbsent, IsAtBucketPhase, Makes, PlansSlot, SeesBucket, TellsOfChange, TellsOfWrite, directory_depth_of, page_of, Pass, Phase, Change, WalkAnswer}
-use Rattle.mlt_hash_form.specs.Changes.{ChangesRecord, slot_change}
-use Rattle.mlt_hash_form.specs.File.{Writes}
-use Rattle.mlt_hash_form.specs.Form.{slot_value}
-use Rattle.mlt_hash_form.specs.Held.{ChangesFile}
-use Rattle.mlt_hash_form.proofs.Lookup.{live_from_value, live_passes, within_from_live}
-use Rattle.mlt_hash_form.proofs.Paths.{path_home}
-use Rattle.mlt_hash_form.proofs.SingleChanges.{put_changes, revive_changes, set_value_changes, to_ghost_changes}
-use Rattle.mlt_hash_access.specs.Views.{WritesSlot}
-use Rattle.mlt_hash_access.proofs.Since.{reads_below_writes, rebased_writes_slot}
-use Rattle.mlt_hash_access.proofs.Unwritten.{first_write_is_not_third}
-use Rattle.mlt_hash.specs.Passes.{change_to, value_after}
-use Rattle.mlt_hash.specs.Changes.{IsAtRecord, LacksMemory, WritesIfChanged}
+use Rattle.mlt_hash_form.{specs.Changes.ChangesRecord, specs.Changes.slot_change, specs.File.Writes, specs.Form.slot_value, specs.Held.ChangesFile, proofs.Lookup.live_from_value, proofs.Lookup.live_passes, proofs.Lookup.within_from_live, proofs.Paths.path_home, proofs.SingleChanges.put_changes, proofs.SingleChanges.revive_changes, proofs.SingleChanges.set_value_changes, proofs.SingleChanges.to_ghost_changes}
+use Rattle.mlt_hash_access.{specs.Views.WritesSlot, proofs.Since.reads_below_writes, proofs.Since.rebased_writes_slot, proofs.Unwritten.first_write_is_not_third}
+use Rattle.mlt_hash.{specs.Passes.change_to, specs.Passes.value_after, specs.Changes.IsAtRecord, specs.Changes.LacksMemory, specs.Changes.WritesIfChanged, proofs.Beside.few_before, proofs.Beside.few_beside, proofs.Beside.more_beside, proofs.Beside.still_beside}
 use Rattle.mlt_hash.proofs.Passed.{StepsOn, holds_at_bucket, holds_on, read_at_bucket, reads_on, steps_by_write}
-use Rattle.mlt_hash.proofs.Beside.{few_before, few_beside, more_beside, still_beside}
 
 -- a walk that found a record stands at its bucket,
 pub record_at : (context : WalkContext) (walk : WalkFields) (view : View) (phase : Phase) → IsAtRecord phase → Stands phase context walk view → (found : Option ℕ) × IsAtBucket context walk view (page_of phase) (directory_depth_of phase) found × IsSome found

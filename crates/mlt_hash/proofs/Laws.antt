@@ -3,8 +3,7 @@ use Rattle.std.proofs.Common.{◌≡◌, ℕ, false, Option, is_some, sym, ap, �
 use Rattle.std.specs.FinMap as map
 use Rattle.mlt_hash.proofs.Names.{Mode, Page, Modes, can_read, IsPath, look_up, Agrees, LocalState, View, view_of, read_is_there, WalkContext, IsAtBucket, IsAtStart, WalkFields}
 use Rattle.mlt_page_locks.specs.LockTables.{pages_of}
-use Rattle.mlt_hash_access.proofs.Reading.{path_read}
-use Rattle.mlt_hash_access.proofs.Views.{own_free, seen_free}
+use Rattle.mlt_hash_access.proofs.{Reading.path_read, Views.own_free, Views.seen_free}
 use Rattle.mlt_hash.proofs.Passed.{read_at_bucket}
 
 -- who holds no page reads none

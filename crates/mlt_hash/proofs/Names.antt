@@ -1,52 +1,9 @@
 -- Names of other crates, of std and of specs/ that two files of these proofs or more import. Declares nothing.
-pub use Rattle.mlt_hash.specs.Changes.{IsAtAbsent, IsAtBucketPhase, IsFull, Makes, MayChange, PlansSlot, RevivesFirst, SeesBucket, TellsOfChange, TellsOfWrite, directory_depth_of, page_of}
-pub use Rattle.mlt_hash.specs.Passes.{bucket_held, bucket_mode, directory_held, directory_mode, header_held, header_mode, slot_after}
-pub use Rattle.mlt_hash.specs.Splitting.{BeginsSplit, SplitCloses, SplitGoesOn, TellsAt, TellsOfAdding, TellsOfSplitting, WalkStep, walk_step}
-pub use Rattle.mlt_hash.specs.Steps.{HasFound, steps_to_bucket}
-pub use Rattle.mlt_hash.specs.Walks.{Before, FoundBefore, GoesAfter, HasRead, HoldsBeside, HoldsByPass, IsAdding, IsAtBucket, IsAtStart, IsChanged, IsHeaded, IsOwnSlot, IsPlaced, IsSplitting, IsStanding, MayWalk, SlotsStood, Stands, StaysNarrow, StoodBefore, WalkContext, WalkFields, before_of, context_after, context_in, nothing_before, one_key, slot_on, split_target, view_for}
-pub use Rattle.mlt_hash.specs.declared.answer.WalkAnswer.{WalkAnswer}
-pub use Rattle.mlt_hash.specs.declared.pass.Change.{Change}
-pub use Rattle.mlt_hash.specs.declared.pass.Pass.{Pass}
-pub use Rattle.mlt_hash.specs.declared.pass.Phase.{Phase}
-pub use Rattle.mlt_hash_access.proofs.OwnSteps.{step_keeps_tx}
-pub use Rattle.mlt_hash_access.proofs.Reading.{read_is_there}
-pub use Rattle.mlt_hash_access.proofs.Rebased.{rebased_reads_page}
-pub use Rattle.mlt_hash_access.proofs.Since.{agrees_over, over_since, reads_over_writes, reads_since, sees_page_since, unwritten_anew}
-pub use Rattle.mlt_hash_access.proofs.Views.{may_read, may_write, mode_of_others, mode_of_page, reads_held_after, reads_seen, seen_held, write_writes, writes_over_clean}
-pub use Rattle.mlt_hash_access.specs.LocalStates.{HasCleanFile, HasFileOver, IsCleanFor, LocalState, MayStep, local, no_writes}
-pub use Rattle.mlt_hash_access.specs.PageSteps.{TouchesOnePage, WritesHeldSlot}
-pub use Rattle.mlt_hash_access.specs.Views.{HasWritten, MakesPage, ReadsHeldBucket, ReadsHeldPage, ReadsPage, View, WritesPage, view_of, view_over}
-pub use Rattle.mlt_hash_form.proofs.Crowd.{crowded_at_own_depth}
-pub use Rattle.mlt_hash_form.proofs.HeldPages.{keeps_none, seen_as}
-pub use Rattle.mlt_hash_form.proofs.Splitting.{used_from_kept}
-pub use Rattle.mlt_hash_form.specs.Changes.{IsHome}
-pub use Rattle.mlt_hash_form.specs.File.{FilePages, HasForm, IsPath, bucket_of, buckets_of, dir_of, header_of, lead_of, look_up, row_of}
-pub use Rattle.mlt_hash_form.specs.Form.{slot_at, value_in}
-pub use Rattle.mlt_hash_form.specs.Held.{Agrees, KeepsFile, RearrangesSlots, over, own_or_clean}
-pub use Rattle.mlt_hash_form.specs.Room.{crowds, is_crowded}
-pub use Rattle.mlt_hash_form.specs.Plans.{IsNowhere, SetsFirst, WriteFields, has_room, planned_page}
-pub use Rattle.mlt_hash_split.proofs.Closing.{HasClean}
-pub use Rattle.mlt_hash_split.proofs.Few.{rest_holds_few}
-pub use Rattle.mlt_hash_split.specs.Rests.{IsAtRest, KeepsNoMore, SplitTarget, held_page}
-pub use Rattle.mlt_hash_split.specs.Splits.{HasHalves, IsUnderWay, MayAdvance, MayBegin, SplitFields, directory_steps, steps_left}
-pub use Rattle.mlt_hash_split.specs.Steps.{IsDone, IsMaking, IsNextPage}
-pub use Rattle.mlt_hash_split.specs.Tells.{GoesOn, Rests}
-pub use Rattle.mlt_hash_split.specs.declared.split.SplitAnswer.{SplitAnswer}
-pub use Rattle.mlt_page.specs.Bits.{first_bits}
-pub use Rattle.mlt_page.specs.Pages.{page_with_slot}
-pub use Rattle.mlt_page.specs.Slots.{is_ghost_of, is_kept, is_live_of}
-pub use Rattle.mlt_page.specs.Values.{BucketFields, HeadFields}
-pub use Rattle.mlt_page.specs.declared.page.Page.{Page}
-pub use Rattle.mlt_page.specs.declared.slot.Slot.{Slot}
-pub use Rattle.mlt_page.specs.declared.slot.Slot.TheVariants.{Free, Ghost, Live}
-pub use Rattle.mlt_page_locks.proofs.LockLaws.{stronger_exclusive}
-pub use Rattle.mlt_page_locks.specs.LockTables.{Modes, can_read, can_write, mode_held}
-pub use Rattle.mlt_page_locks.specs.Requests.{stronger, with_page}
-pub use Rattle.mlt_page.specs.Stores.{page_at}
-pub use Rattle.mlt_types.specs.declared.mode.Mode.{Mode}
-pub use Rattle.mlt_types.specs.declared.mode.Mode.TheVariants.{Exclusive}
-pub use Rattle.mlt_types.specs.declared.refusal.Refusal.{Refusal}
-pub use Rattle.std.proofs.lemmas.Bool.{cases_eq, cases_lt, cond-true, false≢true}
-pub use Rattle.std.proofs.lemmas.Bool.Decides.{nat_tests}
-pub use Rattle.std.specs.Cmp.{nat_cmp_total}
-pub use Rattle.std.specs.List.{list_all}
+pub use Rattle.mlt_hash.specs.{Changes.IsAtAbsent, Changes.IsAtBucketPhase, Changes.IsFull, Changes.Makes, Changes.MayChange, Changes.PlansSlot, Changes.RevivesFirst, Changes.SeesBucket, Changes.TellsOfChange, Changes.TellsOfWrite, Changes.directory_depth_of, Changes.page_of, Passes.bucket_held, Passes.bucket_mode, Passes.directory_held, Passes.directory_mode, Passes.header_held, Passes.header_mode, Passes.slot_after, Splitting.BeginsSplit, Splitting.SplitCloses, Splitting.SplitGoesOn, Splitting.TellsAt, Splitting.TellsOfAdding, Splitting.TellsOfSplitting, Splitting.WalkStep, Splitting.walk_step, Steps.HasFound, Steps.steps_to_bucket, Walks.Before, Walks.FoundBefore, Walks.GoesAfter, Walks.HasRead, Walks.HoldsBeside, Walks.HoldsByPass, Walks.IsAdding, Walks.IsAtBucket, Walks.IsAtStart, Walks.IsChanged, Walks.IsHeaded, Walks.IsOwnSlot, Walks.IsPlaced, Walks.IsSplitting, Walks.IsStanding, Walks.MayWalk, Walks.SlotsStood, Walks.Stands, Walks.StaysNarrow, Walks.StoodBefore, Walks.WalkContext, Walks.WalkFields, Walks.before_of, Walks.context_after, Walks.context_in, Walks.nothing_before, Walks.one_key, Walks.slot_on, Walks.split_target, Walks.view_for, declared.answer.WalkAnswer.WalkAnswer, declared.pass.Change.Change, declared.pass.Pass.Pass, declared.pass.Phase.Phase}
+pub use Rattle.mlt_hash_access.{proofs.OwnSteps.step_keeps_tx, proofs.Reading.read_is_there, proofs.Rebased.rebased_reads_page, proofs.Since.agrees_over, proofs.Since.over_since, proofs.Since.reads_over_writes, proofs.Since.reads_since, proofs.Since.sees_page_since, proofs.Since.unwritten_anew, proofs.Views.may_read, proofs.Views.may_write, proofs.Views.mode_of_others, proofs.Views.mode_of_page, proofs.Views.reads_held_after, proofs.Views.reads_seen, proofs.Views.seen_held, proofs.Views.write_writes, proofs.Views.writes_over_clean, specs.LocalStates.HasCleanFile, specs.LocalStates.HasFileOver, specs.LocalStates.IsCleanFor, specs.LocalStates.LocalState, specs.LocalStates.MayStep, specs.LocalStates.local, specs.LocalStates.no_writes, specs.PageSteps.TouchesOnePage, specs.PageSteps.WritesHeldSlot, specs.Views.HasWritten, specs.Views.MakesPage, specs.Views.ReadsHeldBucket, specs.Views.ReadsHeldPage, specs.Views.ReadsPage, specs.Views.View, specs.Views.WritesPage, specs.Views.view_of, specs.Views.view_over}
+pub use Rattle.mlt_hash_form.{proofs.Crowd.crowded_at_own_depth, proofs.HeldPages.keeps_none, proofs.HeldPages.seen_as, proofs.Splitting.used_from_kept, specs.Changes.IsHome, specs.File.FilePages, specs.File.HasForm, specs.File.IsPath, specs.File.bucket_of, specs.File.buckets_of, specs.File.dir_of, specs.File.header_of, specs.File.lead_of, specs.File.look_up, specs.File.row_of, specs.Form.slot_at, specs.Form.value_in, specs.Held.Agrees, specs.Held.KeepsFile, specs.Held.RearrangesSlots, specs.Held.over, specs.Held.own_or_clean, specs.Room.crowds, specs.Room.is_crowded, specs.Plans.IsNowhere, specs.Plans.SetsFirst, specs.Plans.WriteFields, specs.Plans.has_room, specs.Plans.planned_page}
+pub use Rattle.mlt_hash_split.{proofs.Closing.HasClean, proofs.Few.rest_holds_few, specs.Rests.IsAtRest, specs.Rests.KeepsNoMore, specs.Rests.SplitTarget, specs.Rests.held_page, specs.Splits.HasHalves, specs.Splits.IsUnderWay, specs.Splits.MayAdvance, specs.Splits.MayBegin, specs.Splits.SplitFields, specs.Splits.directory_steps, specs.Splits.steps_left, specs.Steps.IsDone, specs.Steps.IsMaking, specs.Steps.IsNextPage, specs.Tells.GoesOn, specs.Tells.Rests, specs.declared.split.SplitAnswer.SplitAnswer}
+pub use Rattle.mlt_page.specs.{Bits.first_bits, Pages.page_with_slot, Slots.is_ghost_of, Slots.is_kept, Slots.is_live_of, Values.BucketFields, Values.HeadFields, declared.page.Page.Page, declared.slot.Slot.Slot, declared.slot.Slot.TheVariants.Free, declared.slot.Slot.TheVariants.Ghost, declared.slot.Slot.TheVariants.Live, Stores.page_at}
+pub use Rattle.mlt_page_locks.{proofs.LockLaws.stronger_exclusive, specs.LockTables.Modes, specs.LockTables.can_read, specs.LockTables.can_write, specs.LockTables.mode_held, specs.Requests.stronger, specs.Requests.with_page}
+pub use Rattle.mlt_types.specs.declared.{mode.Mode.Mode, mode.Mode.TheVariants.Exclusive, refusal.Refusal.Refusal}
+pub use Rattle.std.{proofs.lemmas.Bool.cases_eq, proofs.lemmas.Bool.cases_lt, proofs.lemmas.Bool.cond-true, proofs.lemmas.Bool.false≢true, proofs.lemmas.Bool.Decides.nat_tests, specs.Cmp.nat_cmp_total, specs.List.list_all}

@@ -3,8 +3,7 @@ use Rattle.std.proofs.Common.{◌≡◌, ℕ, true, false, Option, Some, None, i
 use Rattle.std.specs.FinMap as map
 use Rattle.mlt_hash.proofs.Names.{cases_eq, false≢true, nat_tests, Mode, Exclusive, Page, mode_held, HasForm, Agrees, MayStep, LocalState, view_of, may_write, SplitFields, IsNextPage, TellsOfSplitting, WalkStep, WalkContext, IsSplitting, split_target, view_for, WalkAnswer, Pass}
 use Rattle.mlt_page_locks.specs.Requests.{conflicts, is_against}
-use Rattle.mlt_hash.proofs.Passed.{narrow_holds_next}
-use Rattle.mlt_hash.proofs.StepsLeft.{some_is_one}
+use Rattle.mlt_hash.proofs.{Passed.narrow_holds_next, StepsLeft.some_is_one}
 
 against_is_held : (o : Option Mode) (mode : Mode) → is_against o mode ≡ true → is_some o ≡ true
 against_is_held None mode against = absurd (false≢true against)

@@ -5,8 +5,7 @@ use Rattle.mlt_hash.proofs.Names.{false≢true, is_kept, Slot, Free, Page, Bucke
 use Rattle.mlt_page_subtx.proofs.ImageLaws.{not_true}
 use Rattle.mlt_hash_form.proofs.HeldPages.{keeps_fewer}
 use Rattle.mlt_hash_split.proofs.Laws.{rest_with_fewer, under_way_with_fewer}
-use Rattle.mlt_hash.proofs.Passed.{read_as}
-use Rattle.mlt_hash.proofs.Standing.{at_bucket_for, headed_for, placed_for}
+use Rattle.mlt_hash.proofs.{Passed.read_as, Standing.at_bucket_for, Standing.headed_for, Standing.placed_for}
 
 module _ (context : WalkContext) (fewer : set.FinSet nat_cmp) (walk : WalkFields) (view : View) (clean : ℕ → Option Page) (no_more : KeepsNoMore context.active fewer view) (agree : Agrees view.seen clean) (form : HasForm context.bits clean context.root) where
   -- a slot of a held page of what is written so far was kept, if it is now

@@ -3,14 +3,8 @@ use Rattle.std.proofs.Common.{◌≡◌, ◌≢◌, ℕ, ◌<◌, ◌⊎◌, tru
 use Rattle.std.specs.FinMap as map
 use Rattle.std.specs.FinSet as set
 use Rattle.mlt_hash.proofs.Names.{cases_eq, false≢true, Mode, Exclusive, Page, BucketFields, HeadFields, Modes, mode_held, stronger, with_page, stronger_exclusive, HasForm, dir_of, Agrees, own_or_clean, MayStep, LocalState, TouchesOnePage, MakesPage, View, WritesPage, step_keeps_tx, mode_of_others, mode_of_page, SplitTarget, IsUnderWay, SplitFields, IsDone, IsMaking, IsNextPage, SplitAnswer, bucket_held, bucket_mode, directory_held, directory_mode, header_held, header_mode, WalkContext, Before, GoesAfter, HasRead, HoldsByPass, IsAtBucket, IsSplitting, StaysNarrow, WalkFields, split_target, view_for, Pass}
-use Rattle.mlt_hash_access.proofs.Reading.{bucket_still}
-use Rattle.mlt_hash_access.proofs.OwnSteps.{own_step_writes_more}
-use Rattle.mlt_hash_access.proofs.Since.{over_sees_more}
-use Rattle.mlt_hash_access.proofs.Views.{exclusive_stays}
-use Rattle.mlt_hash_split.specs.Steps.{IsKeysPage}
-use Rattle.mlt_hash_split.proofs.HeldPages.{exclusive_after_make, grows_by_make}
-use Rattle.mlt_hash_split.proofs.Locks.{done_writes_what_it_locks, locks_its_page_alone}
-use Rattle.mlt_hash_split.proofs.Narrow.{narrow_leaves_header, narrow_makes_none, narrow_next_page}
+use Rattle.mlt_hash_access.proofs.{Reading.bucket_still, OwnSteps.own_step_writes_more, Since.over_sees_more, Views.exclusive_stays}
+use Rattle.mlt_hash_split.{specs.Steps.IsKeysPage, proofs.HeldPages.exclusive_after_make, proofs.HeldPages.grows_by_make, proofs.Locks.done_writes_what_it_locks, proofs.Locks.locks_its_page_alone, proofs.Narrow.narrow_leaves_header, proofs.Narrow.narrow_makes_none, proofs.Narrow.narrow_next_page}
 use Rattle.mlt_hash.specs.Passes.{MayHoldMore}
 
 -- what was read is so whoever is open,

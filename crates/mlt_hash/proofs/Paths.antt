@@ -2,12 +2,9 @@
 use Rattle.std.proofs.Common.{◌≡◌, ℕ, ◌<◌, ◌≤◌, ◌+◌, ◌^◌, true, List, Option, Some, is_some, refl, sym, ap, subst, ◌∙◌, arith, slice_index}
 use Rattle.std.specs.FinMap as map
 use Rattle.mlt_hash.proofs.Names.{Mode, BucketFields, HeadFields, Page, HasForm, dir_of, header_of, row_of, value_in, Agrees, over, HasCleanFile, IsCleanFor, MayStep, LocalState, no_writes, ReadsPage, view_of, agrees_over, sees_page_since, unwritten_anew, with_page, bucket_mode, directory_mode, header_mode, WalkContext, Before, HoldsBeside, IsAtBucket, IsAtStart, IsHeaded, IsPlaced, Stands, WalkFields, context_after, nothing_before, one_key, view_for, HasFound, steps_to_bucket, Phase}
-use Rattle.mlt_hash_form.specs.File.{depth_of}
-use Rattle.mlt_hash_form.proofs.Paths.{path_from_dir, path_from_header}
+use Rattle.mlt_hash_form.{specs.File.depth_of, proofs.Paths.path_from_dir, proofs.Paths.path_from_header}
 use Rattle.mlt_hash_access.proofs.Since.{still_unwritten}
-use Rattle.mlt_hash.specs.Steps.{GoesOn}
-use Rattle.mlt_hash.proofs.Beside.{bucket_beside, directory_beside, goes_after_nothing, header_beside}
-use Rattle.mlt_hash.proofs.Readings.{reads_clean}
+use Rattle.mlt_hash.{specs.Steps.GoesOn, proofs.Beside.bucket_beside, proofs.Beside.directory_beside, proofs.Beside.goes_after_nothing, proofs.Beside.header_beside, proofs.Readings.reads_clean}
 
 -- the header is there,
 pub head_there : (bits : ℕ → ℕ) (clean : ℕ → Option Page) (root : ℕ) → HasForm bits clean root → (header : HeadFields) × (clean root ≡ Some (Page.Head header))

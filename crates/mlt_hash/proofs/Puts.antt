@@ -4,24 +4,11 @@ use Rattle.mlt_hash.proofs.Names.{list_all, cases_lt, false≢true, Exclusive, R
 use Rattle.std.specs.FinMap as map
 use Rattle.std.specs.FinSet as set
 use Rattle.std.proofs.lemmas.List.Folds.{list_all_at}
-use Rattle.mlt_hash_form.proofs.Crowd.{crowded_in_fewer}
-use Rattle.mlt_hash_form.proofs.HeldPages.{keeps_more}
-use Rattle.mlt_hash_access.specs.LocalStates.{page_before}
-use Rattle.mlt_hash_access.specs.PageSteps.{MakesLockedPage, WritesHeldPage}
-use Rattle.mlt_hash_access.specs.Views.{own_at}
-use Rattle.mlt_hash_access.proofs.Rebased.{rebased_makes_page, rebased_writes_page}
-use Rattle.mlt_hash_access.proofs.Since.{read_over_writes}
-use Rattle.mlt_hash_access.proofs.Views.{make_makes}
-use Rattle.mlt_hash_split.specs.Rests.{seed_of}
-use Rattle.mlt_hash_split.proofs.Beginning.{rest_bucket, rest_is_shallow, rest_is_small}
-use Rattle.mlt_hash_split.proofs.HeldPages.{not_made}
-use Rattle.mlt_hash.specs.Changes.{PutsLowest}
-use Rattle.mlt_hash.specs.Splitting.{HasToSplit}
-use Rattle.mlt_hash.proofs.Additions.{nowhere_found}
-use Rattle.mlt_hash.proofs.Beside.{more_beside, still_beside}
-use Rattle.mlt_hash.proofs.InPlace.{changes_by}
+use Rattle.mlt_hash_form.proofs.{Crowd.crowded_in_fewer, HeldPages.keeps_more}
+use Rattle.mlt_hash_access.{specs.LocalStates.page_before, specs.PageSteps.MakesLockedPage, specs.PageSteps.WritesHeldPage, specs.Views.own_at, proofs.Rebased.rebased_makes_page, proofs.Rebased.rebased_writes_page, proofs.Since.read_over_writes, proofs.Views.make_makes}
+use Rattle.mlt_hash_split.{specs.Rests.seed_of, proofs.Beginning.rest_bucket, proofs.Beginning.rest_is_shallow, proofs.Beginning.rest_is_small, proofs.HeldPages.not_made}
+use Rattle.mlt_hash.{specs.Changes.PutsLowest, specs.Splitting.HasToSplit, proofs.Additions.nowhere_found, proofs.Beside.more_beside, proofs.Beside.still_beside, proofs.InPlace.changes_by, proofs.Splittings.stays_exclusive_in_step}
 use Rattle.mlt_hash.proofs.Passed.{StepsOn, holds_on, reads_on, steps_by_making, steps_by_write}
-use Rattle.mlt_hash.proofs.Splittings.{stays_exclusive_in_step}
 
 -- what no slot has stands nowhere
 pub nowhere : (has : Slot → Bool) (slots : List Slot) → ((i : ℕ) → has (slice_index_or slots i Free) ≡ false) → position has slots ≡ None

@@ -3,9 +3,7 @@ use Rattle.std.proofs.Common.{◌≡◌, ℕ, ◌<◌, ◌≤◌, ◌+◌, true,
 use Rattle.mlt_hash.proofs.Names.{nat_cmp_total, Mode, Page, page_at, Modes, stronger, with_page, IsCleanFor, MayStep, LocalState, FilePages, over, own_or_clean, HasWritten, ReadsPage, view_of, view_over, agrees_over, sees_page_since, bucket_held, bucket_mode, directory_held, directory_mode, header_held, header_mode, Pass}
 use Rattle.std.specs.FinMap as map
 use Rattle.mlt_page_locks.specs.LockTables.{page_count}
-use Rattle.mlt_hash_access.specs.Views.{IsUnwrittenSince}
-use Rattle.mlt_hash_access.proofs.Since.{there_since}
-use Rattle.mlt_hash_access.proofs.Views.{page_count_of_view}
+use Rattle.mlt_hash_access.{specs.Views.IsUnwrittenSince, proofs.Since.there_since, proofs.Views.page_count_of_view}
 
 -- what was read is what the clean page is, with what was written before over it
 pub reads_clean : (before : FilePages) (old new : LocalState) (q : ℕ) (mode : Mode) (page : Option Page) (clean : ℕ → Option Page) → MayStep new → IsCleanFor new clean → IsUnwrittenSince before (view_over before old) → ReadsPage (view_over before old) (view_over before new) q mode page → over clean before q ≡ page

@@ -1,19 +1,12 @@
 -- Where a bucket has no room: what a walk tells of it, and that its file rests before the first split
 use Rattle.std.proofs.Common.{◌≡◌, ℕ, ◌<◌, ◌≤◌, ◌+◌, ◌^◌, Bool, true, false, List, length, Option, Some, None, is_some, refl, sym, ap, subst, ◌∙◌, inl, inr, arith, MatchOption, position, slice_index_or, unwrap_or, lt-ltb}
 use Rattle.mlt_hash.proofs.Names.{list_all, cases_lt, cond-true, false≢true, Exclusive, is_ghost_of, is_kept, is_live_of, Slot, Free, Page, BucketFields, IsHome, HasForm, bucket_of, buckets_of, dir_of, header_of, lead_of, Agrees, KeepsFile, RearrangesSlots, over, own_or_clean, crowds, is_crowded, crowded_at_own_depth, keeps_none, HasFileOver, MayStep, LocalState, View, agrees_over, over_since, reads_since, bucket_held, header_mode, IsAtRest, held_page, WalkContext, Before, IsAdding, IsAtBucket, Stands, WalkFields, split_target, one_key, view_for, IsAtAbsent, IsFull, SeesBucket, directory_depth_of, page_of, Pass, Phase}
-use Rattle.std.specs.List.{position_or_len}
+use Rattle.std.{specs.List.position_or_len, proofs.lemmas.List.get_or_past, proofs.lemmas.List.Sums.fails_before_first, proofs.lemmas.Option.none-some}
 use Rattle.std.specs.FinMap as map
-use Rattle.std.proofs.lemmas.List.{get_or_past}
-use Rattle.std.proofs.lemmas.List.Sums.{fails_before_first}
-use Rattle.std.proofs.lemmas.Option.{none-some}
 use Rattle.mlt_page_subtx.proofs.ImageLaws.{not_there}
 use Rattle.mlt_hash_form.proofs.Paths.{path_depths}
-use Rattle.mlt_hash.specs.Passes.{HasRoomFrom, IsNextPass, NeverHasRoom}
-use Rattle.mlt_hash.specs.Steps.{IsSameWalk}
+use Rattle.mlt_hash.{specs.Passes.HasRoomFrom, specs.Passes.IsNextPass, specs.Passes.NeverHasRoom, specs.Steps.IsSameWalk, proofs.Passed.holds_at_bucket, proofs.Passed.read_at_bucket, proofs.Beside.anew_unless_wide, proofs.Beside.few_before, proofs.Beside.more_beside, proofs.Readings.three_held}
 use Rattle.mlt_hash.specs.Changes.{HasNoRoom, IsNext, MustWiden, NeedsSplit, crowded_at}
-use Rattle.mlt_hash.proofs.Passed.{holds_at_bucket, read_at_bucket}
-use Rattle.mlt_hash.proofs.Beside.{anew_unless_wide, few_before, more_beside}
-use Rattle.mlt_hash.proofs.Readings.{three_held}
 use Rattle.mlt_hash.proofs.InPlace.{absent_at, bucket_is_exclusive, found_there, no_live_slot, same_bucket, seen_home, seen_path}
 
 -- a slot that no search finds, and a free one past the end

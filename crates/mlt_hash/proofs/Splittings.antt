@@ -1,20 +1,12 @@
 -- Steps of a split, as steps of the walk whose bucket is split
 use Rattle.std.proofs.Common.{ℕ, ◌≡◌, ◌<◌, ◌≤◌, true, false, Option, None, Some, refl, sym, ◌∙◌, ap, subst, inl, inr, arith, ◌↔◌}
 use Rattle.std.specs.FinMap as map
-use Rattle.mlt_hash.specs.Steps.{IsSameWalk}
+use Rattle.mlt_hash.{specs.Steps.IsSameWalk, specs.Splitting.OfSplit, specs.Steps.LocksIfFound, specs.Steps.TellsOfPath, proofs.StepsLeft.some_is_one}
 use Rattle.mlt_hash.proofs.Names.{cases_eq, false≢true, Mode, Exclusive, Refusal, Agrees, over, can_write, HasFileOver, MayStep, LocalState, TouchesOnePage, view_of, step_keeps_tx, agrees_over, may_write, IsUnderWay, MayAdvance, SplitFields, steps_left, SplitTarget, IsDone, IsMaking, GoesOn, Rests, SplitAnswer, WalkContext, HasRead, HoldsByPass, IsAdding, IsSplitting, IsStanding, MayWalk, Stands, StaysNarrow, WalkFields, split_target, view_for, page_of, SplitCloses, SplitGoesOn, TellsOfAdding, TellsOfSplitting, WalkStep, walk_step, HasFound, steps_to_bucket, WalkAnswer, Pass, Phase}
-use Rattle.mlt_page_locks.specs.LockTables.{LockTable}
-use Rattle.mlt_page_locks.proofs.LockLaws.{can_write-granted}
-use Rattle.mlt_page_locks.specs.Requests.{granted}
-use Rattle.mlt_hash_access.specs.PageSteps.{LocksAtMost, WritesAtMost}
-use Rattle.mlt_hash_access.proofs.Views.{holds_exclusively}
-use Rattle.mlt_hash_split.specs.Steps.{IsLeft, Touches}
-use Rattle.mlt_hash_split.specs.Tells.{Tells}
-use Rattle.mlt_hash_split.specs.declared.phase.SplitPhase.{SplitPhase}
-use Rattle.mlt_hash.specs.Splitting.{OfSplit}
-use Rattle.mlt_hash.specs.Steps.{LocksIfFound, TellsOfPath}
+use Rattle.mlt_page_locks.{specs.LockTables.LockTable, proofs.LockLaws.can_write-granted, specs.Requests.granted}
+use Rattle.mlt_hash_access.{specs.PageSteps.LocksAtMost, specs.PageSteps.WritesAtMost, proofs.Views.holds_exclusively}
+use Rattle.mlt_hash_split.specs.{Steps.IsLeft, Steps.Touches, Tells.Tells, declared.phase.SplitPhase.SplitPhase}
 use Rattle.mlt_hash.proofs.Passed.{StepsOn, holds_on, narrow_keeps_header, reads_on, steps_by_split}
-use Rattle.mlt_hash.proofs.StepsLeft.{some_is_one}
 
 -- a lock more takes no right away
 granted_keeps : (locks new : LockTable) (tx q root : ℕ) (mode : Mode) → new ≡ granted locks tx q mode → can_write locks tx root ≡ true → can_write new tx root ≡ true

@@ -3,9 +3,7 @@ use Rattle.std.proofs.Common.{◌≡◌, ℕ, ◌<◌, ◌≤◌, ◌+◌, Optio
 use Rattle.std.specs.FinMap as map
 use Rattle.mlt_hash.proofs.Names.{Page, HeadFields, HasForm, look_up, Agrees, View, read_is_there, HasClean, rest_holds_few, WalkContext, GoesAfter, HasRead, HoldsBeside, IsStanding, Stands, WalkFields, split_target, Phase}
 use Rattle.mlt_hash_split.proofs.Few.{split_holds_few}
-use Rattle.mlt_hash.proofs.Beside.{few_before, few_beside}
-use Rattle.mlt_hash.proofs.Paths.{header_small}
-use Rattle.mlt_hash.proofs.Readings.{none_held}
+use Rattle.mlt_hash.proofs.{Beside.few_before, Beside.few_beside, Paths.header_small, Readings.none_held}
 
 -- on its way a walk holds few pages
 few_on_way : (context : WalkContext) (walk : WalkFields) (view : View) (header : HeadFields) (others : ℕ) (clean : ℕ → Option Page) → Agrees view.seen clean → HasForm context.bits clean context.root → GoesAfter walk.pass context.before → view.seen context.root ≡ Some (Some (Page.Head header))

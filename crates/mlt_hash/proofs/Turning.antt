@@ -4,13 +4,9 @@ use Rattle.std.specs.FinMap as map
 use Rattle.mlt_hash.proofs.Names.{cases_eq, Exclusive, HeadFields, Page, Modes, with_page, stronger_exclusive, Slot, buckets_of, dir_of, header_of, row_of, slot_at, Agrees, over, own_or_clean, seen_as, LocalState, ReadsHeldPage, view_of, view_over, may_read, mode_of_others, mode_of_page, seen_held, held_page, header_held, header_mode, slot_after, WalkContext, Before, GoesAfter, HoldsBeside, IsChanged, IsHeaded, IsOwnSlot, MayWalk, SlotsStood, Stands, WalkFields, context_after, before_of, nothing_before, one_key, slot_on, Change, Pass, Phase}
 use Rattle.mlt_page_locks.proofs.Maps.{same_entries}
 use Rattle.mlt_hash_form.specs.Form.{is_used}
-use Rattle.mlt_hash_access.proofs.Since.{all_written, nothing_since, read_is_seen}
-use Rattle.mlt_hash_access.proofs.Views.{agrees}
-use Rattle.mlt_hash_split.proofs.Closing.{held_page_over}
-use Rattle.mlt_hash_split.proofs.HeldPages.{read_of, reads_as, same_header}
-use Rattle.mlt_hash.specs.Changes.{IsChangedPhase}
-use Rattle.mlt_hash.proofs.Beside.{still_beside}
-use Rattle.mlt_hash.proofs.Stood.{own_after, slot_cases}
+use Rattle.mlt_hash_access.proofs.{Since.all_written, Since.nothing_since, Since.read_is_seen, Views.agrees}
+use Rattle.mlt_hash_split.proofs.{Closing.held_page_over, HeldPages.read_of, HeldPages.reads_as, HeldPages.same_header}
+use Rattle.mlt_hash.{specs.Changes.IsChangedPhase, proofs.Beside.still_beside, proofs.Stood.own_after, proofs.Stood.slot_cases}
 
 -- where it stands
 changed_at : (phase : Phase) (context : WalkContext) (walk : WalkFields) (m : LocalState) → IsChangedPhase phase → Stands phase (one_key context) walk (view_of m) → (bucket : ℕ) × (done : Change) × IsChanged (one_key context) walk (view_of m) bucket done

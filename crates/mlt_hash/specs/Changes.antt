@@ -2,26 +2,13 @@
 use Rattle.std.specs.Prelude.{ℕ, ◌≡◌, ◌≤◌, ◌⊎◌, true, IsSome, Bool, List, Some, None, position, ◌<◌}
 use Rattle.std.specs.List.{list_all}
 use Rattle.std.specs.FinMap as map
-use Rattle.mlt_types.specs.declared.mode.Mode.TheVariants.{Exclusive}
-use Rattle.mlt_types.specs.declared.refusal.Refusal.{Refusal}
-use Rattle.mlt_page.specs.Slots.{is_ghost_of, is_kept}
-use Rattle.mlt_page.specs.declared.slot.Slot.{Slot}
-use Rattle.mlt_page.specs.declared.slot.Slot.TheVariants.{Live}
-use Rattle.mlt_page.specs.declared.page.Page.{Page}
-use Rattle.mlt_page.specs.Values.{BucketFields}
-use Rattle.mlt_hash_form.specs.Room.{is_crowded}
-use Rattle.mlt_hash_access.specs.LocalStates.{LocalState}
-use Rattle.mlt_hash_access.specs.PageSteps.{WritesHeldPage, WritesHeldSlot}
-use Rattle.mlt_hash_access.specs.Views.{ReadsHeldBucket, View, WritesPage}
+use Rattle.mlt_types.specs.declared.{mode.Mode.TheVariants.Exclusive, refusal.Refusal.Refusal}
+use Rattle.mlt_page.specs.{Slots.is_ghost_of, Slots.is_kept, declared.slot.Slot.Slot, declared.slot.Slot.TheVariants.Live, declared.page.Page.Page, Values.BucketFields}
+use Rattle.mlt_hash_form.specs.{Room.is_crowded, Plans.SetsFirst, Plans.WriteFields, Plans.has_room, Plans.planned_page}
+use Rattle.mlt_hash_access.specs.{LocalStates.LocalState, PageSteps.WritesHeldPage, PageSteps.WritesHeldSlot, Views.ReadsHeldBucket, Views.View, Views.WritesPage}
 use Rattle.mlt_hash_split.specs.declared.environment.Environment.{Environment}
-use Rattle.mlt_hash_form.specs.Plans.{SetsFirst, WriteFields, has_room, planned_page}
-use Rattle.mlt_hash.specs.Passes.{HasRoomFrom, IsNextPass, NeverHasRoom}
+use Rattle.mlt_hash.specs.{Passes.HasRoomFrom, Passes.IsNextPass, Passes.NeverHasRoom, Steps.IsSameWalk, declared.pass.Pass.Pass, declared.pass.Phase.Phase, declared.pass.Change.Change, declared.answer.WalkAnswer.WalkAnswer}
 use Rattle.mlt_hash.specs.Walks.{WalkContext, IsStanding, MayWalk, WalkFields, nothing_before, view_for}
-use Rattle.mlt_hash.specs.Steps.{IsSameWalk}
-use Rattle.mlt_hash.specs.declared.pass.Pass.{Pass}
-use Rattle.mlt_hash.specs.declared.pass.Phase.{Phase}
-use Rattle.mlt_hash.specs.declared.pass.Change.{Change}
-use Rattle.mlt_hash.specs.declared.answer.WalkAnswer.{WalkAnswer}
 
 -- the walk is at its bucket
 abbrev pub IsAtBucketPhase : Phase → Type 0

@@ -1,18 +1,9 @@
 -- Passes: in which modes they lock, and which one follows where a bucket has no room
 use Rattle.std.specs.Prelude.{ℕ, ◌≡◌, ◌<◌, ◌≤◌, ◌+◌, ◌⊎◌, true, false, Bool, Option, Some, None}
-use Rattle.mlt_types.specs.declared.mode.Mode.{Mode}
-use Rattle.mlt_types.specs.declared.mode.Mode.TheVariants.{Shared, Exclusive}
-use Rattle.mlt_page.specs.declared.page.Page.{Page}
-use Rattle.mlt_page.specs.declared.slot.Slot.{Slot}
-use Rattle.mlt_page.specs.declared.slot.Slot.TheVariants.{Live, Ghost}
-use Rattle.mlt_page_locks.specs.LockTables.{Modes}
-use Rattle.mlt_page_locks.specs.Requests.{with_page}
-use Rattle.mlt_hash.specs.declared.pass.Pass.{Pass}
-use Rattle.mlt_hash.specs.declared.pass.Pass.TheVariants.{First, Narrow, Wide}
-use Rattle.mlt_hash.specs.declared.pass.Phase.{Phase}
-use Rattle.mlt_hash.specs.declared.pass.Phase.TheVariants.{Full}
-use Rattle.mlt_hash.specs.declared.pass.Change.{Change}
-use Rattle.mlt_hash.specs.declared.pass.Change.TheVariants.{Put, Revive, Set, Remove}
+use Rattle.mlt_types.specs.declared.mode.Mode.{Mode, TheVariants.Shared, TheVariants.Exclusive}
+use Rattle.mlt_page.specs.declared.{page.Page.Page, slot.Slot.Slot, slot.Slot.TheVariants.Live, slot.Slot.TheVariants.Ghost}
+use Rattle.mlt_page_locks.specs.{LockTables.Modes, Requests.with_page}
+use Rattle.mlt_hash.specs.declared.pass.{Pass.Pass, Pass.TheVariants.First, Pass.TheVariants.Narrow, Pass.TheVariants.Wide, Phase.Phase, Phase.TheVariants.Full, Change.Change, Change.TheVariants.Put, Change.TheVariants.Revive, Change.TheVariants.Set, Change.TheVariants.Remove}
 
 -- the modes of the header, of the directory page and of the bucket, which a first pass locks in the walk's own mode
 abbrev pub header_mode : Pass → Mode

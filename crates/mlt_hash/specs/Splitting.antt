@@ -2,24 +2,13 @@
 use Rattle.std.specs.Prelude.{ℕ, ◌≡◌, ◌+◌, ◌⊎◌, true, false, Some}
 use Rattle.std.specs.List.{list_all}
 use Rattle.std.specs.FinMap as map
-use Rattle.mlt_types.specs.declared.mode.Mode.TheVariants.{Exclusive}
-use Rattle.mlt_types.specs.declared.refusal.Refusal.{Refusal}
-use Rattle.mlt_page.specs.Slots.{is_kept}
-use Rattle.mlt_page.specs.Values.{BucketFields, HeadFields}
-use Rattle.mlt_page.specs.declared.page.Page.{Page}
+use Rattle.mlt_types.specs.declared.{mode.Mode.TheVariants.Exclusive, refusal.Refusal.Refusal}
+use Rattle.mlt_page.specs.{Slots.is_kept, Values.BucketFields, Values.HeadFields, declared.page.Page.Page}
 use Rattle.mlt_page_locks.specs.Requests.{IsLowest, conflicts}
-use Rattle.mlt_hash_access.specs.LocalStates.{LocalState}
-use Rattle.mlt_hash_access.specs.PageSteps.{MakesLockedPage, WritesAtMost}
-use Rattle.mlt_hash_split.specs.Rests.{held_page}
-use Rattle.mlt_hash_split.specs.Splits.{HasHalves, SplitFields, directory_steps, steps_left}
-use Rattle.mlt_hash_split.specs.Steps.{IsDone, IsLeft, IsMaking, IsNextPage}
-use Rattle.mlt_hash_split.specs.Tells.{Rests}
+use Rattle.mlt_hash_access.specs.{LocalStates.LocalState, PageSteps.MakesLockedPage, PageSteps.WritesAtMost}
+use Rattle.mlt_hash_split.specs.{Rests.held_page, Splits.HasHalves, Splits.SplitFields, Splits.directory_steps, Splits.steps_left, Steps.IsDone, Steps.IsLeft, Steps.IsMaking, Steps.IsNextPage, Tells.Rests}
 use Rattle.mlt_hash.specs.Walks.{WalkContext, IsStanding, WalkFields, split_target, view_for}
-use Rattle.mlt_hash.specs.Steps.{IsSameWalk, TellsOfPath}
-use Rattle.mlt_hash.specs.Changes.{Makes, PutsLowest}
-use Rattle.mlt_hash.specs.declared.pass.Phase.{Phase}
-use Rattle.mlt_hash.specs.declared.pass.Change.{Change}
-use Rattle.mlt_hash.specs.declared.answer.WalkAnswer.{WalkAnswer}
+use Rattle.mlt_hash.specs.{Steps.IsSameWalk, Steps.TellsOfPath, Changes.Makes, Changes.PutsLowest, declared.pass.Phase.Phase, declared.pass.Change.Change, declared.answer.WalkAnswer.WalkAnswer}
 
 -- one step of a walk: the state and the walk, before it and after
 pub record WalkStep : Type 0 where

@@ -1,14 +1,9 @@
 -- What the steps and the changes of a walk tell
 use Rattle.std.specs.Prelude.{ℕ, ◌≡◌, ◌<◌, ◌+◌, Option}
-use Rattle.mlt_types.specs.declared.mode.Mode.{Mode}
-use Rattle.mlt_types.specs.declared.mode.Mode.TheVariants.{Exclusive}
+use Rattle.mlt_types.specs.declared.mode.Mode.{Mode, TheVariants.Exclusive}
 use Rattle.mlt_page_locks.specs.Requests.{IsLowest, conflicts}
-use Rattle.mlt_hash_access.specs.LocalStates.{LocalState}
-use Rattle.mlt_hash_access.specs.PageSteps.{LocksAtMost}
-use Rattle.mlt_hash.specs.Passes.{bucket_mode, directory_mode, header_mode}
-use Rattle.mlt_hash.specs.Walks.{WalkContext, IsStanding, WalkFields, view_for}
-use Rattle.mlt_hash.specs.declared.pass.Phase.{Phase}
-use Rattle.mlt_hash.specs.declared.answer.WalkAnswer.{WalkAnswer}
+use Rattle.mlt_hash_access.specs.{LocalStates.LocalState, PageSteps.LocksAtMost}
+use Rattle.mlt_hash.specs.{Passes.bucket_mode, Passes.directory_mode, Passes.header_mode, Walks.WalkContext, Walks.IsStanding, Walks.WalkFields, Walks.view_for, declared.pass.Phase.Phase, declared.answer.WalkAnswer.WalkAnswer}
 
 -- how many steps a pass still takes until it has found its key, those that wait aside
 abbrev pub steps_to_bucket : Phase → ℕ

@@ -2,10 +2,8 @@
 use Rattle.std.specs.Prelude.{ℕ, zero, suc, ◌+◌, ◌-◌, nat_eq, if◌then◌else◌, Option, Some, None}
 use Rattle.mlt_hash_form.specs.File.{bucket_of, header_of}
 use Rattle.mlt_hash_access.specs.Views.{View}
-use Rattle.mlt_hash_split.specs.Rests.{held_page}
-use Rattle.mlt_hash_split.specs.Splits.{SplitFields, directory_steps, steps_left}
-use Rattle.mlt_hash.specs.Walks.{WalkFields}
-use Rattle.mlt_hash.specs.declared.pass.Phase.{Phase}
+use Rattle.mlt_hash_split.specs.{Rests.held_page, Splits.SplitFields, Splits.directory_steps, Splits.steps_left}
+use Rattle.mlt_hash.specs.{Walks.WalkFields, declared.pass.Phase.Phase}
 
 -- how deep the directory is, of depth g, once a bucket of depth l is split
 abbrev pub depth_after : ℕ → ℕ → ℕ

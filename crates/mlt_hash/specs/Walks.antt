@@ -4,29 +4,16 @@ use Rattle.std.specs.Prelude.{ℕ, ◌≡◌, ◌≢◌, ◌⊎◌, ◌<◌, ◌
 use Rattle.std.specs.Ordering.{nat_cmp}
 use Rattle.std.specs.FinMap as map
 use Rattle.std.specs.FinSet as set
-use Rattle.mlt_types.specs.declared.mode.Mode.{Mode}
-use Rattle.mlt_types.specs.declared.mode.Mode.TheVariants.{Exclusive}
-use Rattle.mlt_page.specs.Slots.{is_ghost_of, is_kept, is_live_of}
-use Rattle.mlt_page.specs.declared.slot.Slot.{Slot}
-use Rattle.mlt_page.specs.declared.slot.Slot.TheVariants.{Free, Ghost, Live}
-use Rattle.mlt_page.specs.declared.page.Page.{Page}
-use Rattle.mlt_page.specs.Values.{BucketFields, HeadFields}
-use Rattle.mlt_hash_form.specs.Form.{is_used, value_in}
+use Rattle.mlt_types.specs.declared.mode.Mode.{Mode, TheVariants.Exclusive}
+use Rattle.mlt_page.specs.{Slots.is_ghost_of, Slots.is_kept, Slots.is_live_of, declared.slot.Slot.Slot, declared.slot.Slot.TheVariants.Free, declared.slot.Slot.TheVariants.Ghost, declared.slot.Slot.TheVariants.Live, declared.page.Page.Page, Values.BucketFields, Values.HeadFields}
+use Rattle.mlt_hash_form.specs.{Form.is_used, Form.value_in, Changes.IsHome, Changes.slot_change, Held.Agrees, Held.ChangesFile, Held.over, declared.root.Root.Root}
 use Rattle.mlt_hash_form.specs.File.{FilePages, HasForm, bucket_of, depth_of, dir_of, row_of}
-use Rattle.mlt_hash_form.specs.Changes.{IsHome, slot_change}
-use Rattle.mlt_hash_form.specs.Held.{Agrees, ChangesFile, over}
-use Rattle.mlt_hash_form.specs.declared.root.Root.{Root}
-use Rattle.mlt_hash_access.specs.LocalStates.{HasFileOver, MayStep, LocalState, no_writes}
-use Rattle.mlt_hash_access.specs.Reading.{HasReadBucket}
+use Rattle.mlt_hash_access.specs.{LocalStates.HasFileOver, LocalStates.MayStep, LocalStates.LocalState, LocalStates.no_writes, Reading.HasReadBucket}
 use Rattle.mlt_hash_access.specs.Views.{HasWritten, IsUnwritten, IsUnwrittenSince, View, view_of, view_over}
 use Rattle.mlt_page_locks.specs.LockTables.{Modes}
-use Rattle.mlt_hash_split.specs.Rests.{SplitTarget, HoldsAmong, IsAtRest, held_page}
-use Rattle.mlt_hash_split.specs.Splits.{IsUnderWay, SplitFields}
-use Rattle.mlt_hash_split.specs.declared.environment.Environment.{Environment}
+use Rattle.mlt_hash_split.specs.{Rests.SplitTarget, Rests.HoldsAmong, Rests.IsAtRest, Rests.held_page, Splits.IsUnderWay, Splits.SplitFields, declared.environment.Environment.Environment}
 use Rattle.mlt_hash.specs.Passes.{MayHoldMore, bucket_held, bucket_mode, directory_held, directory_mode, header_held, header_mode, slot_after, value_after}
-use Rattle.mlt_hash.specs.declared.pass.Pass.{Pass}
-use Rattle.mlt_hash.specs.declared.pass.Phase.{Phase}
-use Rattle.mlt_hash.specs.declared.pass.Change.{Change}
+use Rattle.mlt_hash.specs.declared.pass.{Pass.Pass, Phase.Phase, Change.Change}
 
 -- what a contract sees of a walk
 pub record WalkFields : Type 0 where

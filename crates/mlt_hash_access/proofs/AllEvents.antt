@@ -3,19 +3,13 @@ use Rattle.std.proofs.Common.{◌≡◌, ◌≢◌, ℕ, ◌≤◌, ◌<◌, ◌
 use Rattle.std.specs.Cmp.{nat_cmp_total}
 use Rattle.std.specs.FinMap as map
 use Rattle.mlt_hash_access.proofs.Names.{cases_eq, false≢true, nat_tests, Mode, Exclusive, Page, PageStore, Pages, page_at, AreCompatible, KeepsOthers, LockTable, Modes, allows_write, can_read, can_write, page_count, pages_of, granted, released, can_write-granted, writer_reads, get_inserted, get_removed, Images, Running, image_of, or_image, put_back, with_image, not_there, not_true, page_at-put_back, Agrees, MayStep, LocalState, page_before, LocksAtMost, TouchesOnePage, WritesAtMost, page_written, view_of, DropsImages, ImagesAreApart, ImagesAreLocked, ImagesAreThere, RunningImages, clean_pages, image_at, AllMayStep, AllRunning, clean_of, images_by, is_open, local_of}
-use Rattle.mlt_page_locks.specs.LockTables.{is_holder}
-use Rattle.mlt_page_locks.specs.Requests.{with_page}
+use Rattle.mlt_page_locks.{specs.LockTables.is_holder, specs.Requests.with_page, proofs.Maps.same_entries}
 use Rattle.mlt_page_locks.proofs.LockLaws.{compatible_released, no_holder-released, page_count-granted, pages_of-released, released_keeps_others}
-use Rattle.mlt_page_locks.proofs.Maps.{same_entries}
 use Rattle.mlt_page_subtx.proofs.ImageLaws.{fresh_has_no_image, with_image-absent}
 use Rattle.mlt_hash_form.specs.Held.{own_or_clean, over}
-use Rattle.mlt_hash_access.specs.Views.{View, own_at, seen_at}
-use Rattle.mlt_hash_access.proofs.LocalStates.{may_after_lock_at_most, may_after_step}
-use Rattle.mlt_hash_access.proofs.OwnSteps.{step_keeps_tx}
+use Rattle.mlt_hash_access.{specs.Views.View, specs.Views.own_at, specs.Views.seen_at, proofs.LocalStates.may_after_lock_at_most, proofs.LocalStates.may_after_step, proofs.OwnSteps.step_keeps_tx, proofs.AllRunning.agrees_with_each, proofs.AllRunning.each_may_step, proofs.Others.same_where_held, proofs.Others.step_drops_no_page, proofs.Others.step_keeps_held_pages, proofs.Others.step_keeps_others}
 use Rattle.mlt_hash_access.specs.Running.{HoldsNothing, KeepsRunning, after_begin, after_close, after_end, after_roll_back, after_step}
-use Rattle.mlt_hash_access.proofs.AllRunning.{agrees_with_each, each_may_step}
 use Rattle.mlt_hash_access.proofs.CleanLaws.{clean_page-end, clean_pages-roll_back, clean_pages-write, drops_cleared, drops_removed, image_at-insert, images_are_apart, others_stay, same_clean_pages}
-use Rattle.mlt_hash_access.proofs.Others.{same_where_held, step_drops_no_page, step_keeps_held_pages, step_keeps_others}
 use Rattle.mlt_hash_access.proofs.RunningLaws.{images_locked-granted, images_locked-released, images_there-ended, images_there-rolled_back, locks_there-released, locks_there-rolled_back}
 
 -- a transaction that keeps its images, its locks and the pages that it holds has the view that it had

@@ -3,13 +3,9 @@ use Rattle.std.proofs.Common.{◌≡◌, ℕ, ◌≤◌, ◌<◌, true, Option, 
 use Rattle.std.specs.List.{list_any}
 use Rattle.mlt_hash_access.proofs.Names.{unsigned_tied, find, false≢true, nat_tests, Mode, Page, PageStore, page_at, Modes, page_count, granted, Images, RunningImages, image_at, page_at-put_back, Agrees, MayStep, AllMayStep, AllRunning, clean_of, images_by, is_open, local_of, view_of}
 use Rattle.std.specs.FinMap as map
-use Rattle.mlt_page_locks.specs.LockTables.{HasRoom}
-use Rattle.mlt_page_locks.proofs.LockLaws.{few_none, room_to_grant}
-use Rattle.mlt_hash_access.proofs.CleanLaws.{clean_page_there, clean_page_unwritten, clean_view}
+use Rattle.mlt_page_locks.{specs.LockTables.HasRoom, proofs.LockLaws.few_none, proofs.LockLaws.room_to_grant}
+use Rattle.mlt_hash_access.{proofs.CleanLaws.clean_page_there, proofs.CleanLaws.clean_page_unwritten, proofs.CleanLaws.clean_view, specs.LocalStates.IsCleanFor, specs.Running.nobody_running, proofs.Views.agrees}
 use Rattle.mlt_page_subtx.proofs.LockedPages.{locks_there-none}
-use Rattle.mlt_hash_access.specs.LocalStates.{IsCleanFor}
-use Rattle.mlt_hash_access.specs.Running.{nobody_running}
-use Rattle.mlt_hash_access.proofs.Views.{agrees}
 
 -- the numbers of a list of entries
 abbrev numbers_of : List (ℕ × Images) → List ℕ

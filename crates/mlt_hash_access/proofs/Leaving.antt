@@ -1,8 +1,7 @@
 -- What steps leave, by what they do. The crates of splits and walks cite these.
 use Rattle.std.proofs.Common.{◌≡◌, ℕ, refl, inl, inr}
 use Rattle.mlt_hash_access.proofs.Names.{Mode, Page, Running, MayStep, LocalState, local, Leaves, LocksPage, MakesLockedPage, TouchesOnePage, WritesHeldPage}
-use Rattle.mlt_hash_access.specs.declared.locked_store.LockedStore.{LockedStore}
-use Rattle.mlt_hash_access.proofs.LocalStates.{clean_after_step, may_after_step}
+use Rattle.mlt_hash_access.{specs.declared.locked_store.LockedStore.LockedStore, proofs.LocalStates.clean_after_step, proofs.LocalStates.may_after_step}
 
 -- what touches one page leaves clean what was clean, and the transaction may go on
 pub leaves : (old new : LocalState) → MayStep old → TouchesOnePage old new → Leaves old new

@@ -2,12 +2,8 @@
 use Rattle.std.proofs.Common.{◌≡◌, ◌≢◌, ℕ, ◌<◌, ◌≤◌, false, true, Option, None, is_some, sym, ap, subst, ◌∙◌, inl, inr, arith, nat_cmp}
 use Rattle.mlt_hash_access.proofs.Names.{nat_cmp_total, cases_eq, false≢true, nat_tests, Mode, Exclusive, Page, PageStore, Pages, page_at, get_inserted, LockTable, can_read, can_write, page_count, pages_of, IsNobody, conflicts, granted, stronger, with_page, pages_of-granted, Images, image_of, with_image, fresh_has_no_image, image_of-with_image, not_true, IsCleanFor, MayStep, LocalState, page_before, LocksAtMost, LocksPage, MakesLockedPage, TouchesOnePage, WritesAtMost, WritesHeldPage}
 use Rattle.std.specs.FinMap as map
-use Rattle.mlt_page_locks.specs.LockTables.{AreCompatible, HasRoom}
-use Rattle.mlt_page_locks.proofs.LockLaws.{can_write-granted, compatible_granted, conflicts-exclusive, page_count-granted}
-use Rattle.mlt_page_subtx.specs.Images.{started}
-use Rattle.mlt_page_subtx.proofs.ImageLaws.{there_made, there_none, there_written}
-use Rattle.mlt_page_subtx.specs.Locking.{LocksPagesThere}
-use Rattle.mlt_page_subtx.proofs.LockedPages.{locks_there-granted, locks_there-written}
+use Rattle.mlt_page_locks.{specs.LockTables.AreCompatible, specs.LockTables.HasRoom, proofs.LockLaws.can_write-granted, proofs.LockLaws.compatible_granted, proofs.LockLaws.conflicts-exclusive, proofs.LockLaws.page_count-granted}
+use Rattle.mlt_page_subtx.{specs.Images.started, proofs.ImageLaws.there_made, proofs.ImageLaws.there_none, proofs.ImageLaws.there_written, specs.Locking.LocksPagesThere, proofs.LockedPages.locks_there-granted, proofs.LockedPages.locks_there-written}
 
 -- the state once page q is locked
 abbrev pub locked : LocalState → ℕ → Mode → LocalState

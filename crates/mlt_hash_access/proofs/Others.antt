@@ -4,10 +4,7 @@ use Rattle.std.specs.FinMap as map
 use Rattle.mlt_hash_access.proofs.Names.{cases_eq, false≢true, nat_tests, Mode, Exclusive, Page, Pages, PageStore, page_at, get_inserted, KeepsOthers, LockTable, Modes, allows_write, can_read, can_write, pages_of, Running, image_of, or_image, MayStep, LocalState, page_before, LocksAtMost, TouchesOnePage, WritesAtMost, page_written, view_of}
 use Rattle.mlt_page_locks.proofs.LockLaws.{granted_keeps_others}
 use Rattle.mlt_page_subtx.specs.Images.{AreThere}
-use Rattle.mlt_hash_access.specs.LocalStates.{beside}
-use Rattle.mlt_hash_access.specs.PageSteps.{LocksPage, MakesLockedPage, WritesHeldPage}
-use Rattle.mlt_hash_access.specs.Views.{IsSameView}
-use Rattle.mlt_hash_access.proofs.LocalStates.{fresh_is_free, may_after_lock_at_most, there_after_insert}
+use Rattle.mlt_hash_access.{specs.LocalStates.beside, specs.PageSteps.LocksPage, specs.PageSteps.MakesLockedPage, specs.PageSteps.WritesHeldPage, specs.Views.IsSameView, proofs.LocalStates.fresh_is_free, proofs.LocalStates.may_after_lock_at_most, proofs.LocalStates.there_after_insert}
 
 -- a step on pages of the transaction tx: others' locks stay, and so do the pages that they hold, and no page goes
 record LeavesOthers (tx : ℕ) (old new : LocalState) : Type 0 where

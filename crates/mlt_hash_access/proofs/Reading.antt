@@ -1,9 +1,7 @@
 -- What is read on the way of a key stays so as more is seen, and is on the clean pages. Other crates cite this module.
 use Rattle.std.proofs.Common.{◌≡◌, ℕ, Option, Some, sym, ap, ◌∙◌}
 use Rattle.mlt_hash_access.proofs.Names.{BucketFields, Page, Agrees, View}
-use Rattle.mlt_hash_form.specs.File.{IsPath, buckets_of, look_up}
-use Rattle.mlt_hash_form.specs.Form.{value_in}
-use Rattle.mlt_hash_form.proofs.InPages.{led_at}
+use Rattle.mlt_hash_form.{specs.File.IsPath, specs.File.buckets_of, specs.File.look_up, specs.Form.value_in, proofs.InPages.led_at}
 use Rattle.mlt_hash_access.specs.Reading.{HasReadBucket, HasReadPlace}
 
 -- what a view sees the later one sees

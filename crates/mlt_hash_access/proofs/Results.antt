@@ -4,10 +4,7 @@ use Rattle.std.specs.FinMap as map
 use Rattle.mlt_hash_access.proofs.Names.{Mode, Exclusive, Page, Slot, BucketFields, page_with_slot, PageStore, page_at, LockTable, can_read, can_write, writer_reads, IsNobody, conflicts, granted, Running, with_image, own_or_clean, seen_as, MayStep, LocalState, page_before, Leaves, LocksPage, MakesLockedPage, WritesHeldPage, MakesPage, ReadsHeldPage, WritesPage, WritesSlot, own_at, seen_at, view_of}
 use Rattle.mlt_page.specs.Stores.{SetsSlot}
 use Rattle.mlt_hash_form.proofs.Paths.{one_page}
-use Rattle.mlt_hash_access.specs.PageSteps.{WritesHeldSlot}
-use Rattle.mlt_hash_access.specs.Views.{ReadsHeldBucket}
-use Rattle.mlt_hash_access.proofs.Leaving.{leaves_by_making, leaves_by_writing, leaves_it}
-use Rattle.mlt_hash_access.proofs.Views.{make_makes, reads_what_is_there, seen_held, write_writes}
+use Rattle.mlt_hash_access.{specs.PageSteps.WritesHeldSlot, specs.Views.ReadsHeldBucket, proofs.Leaving.leaves_by_making, proofs.Leaving.leaves_by_writing, proofs.Leaving.leaves_it, proofs.Views.make_makes, proofs.Views.reads_what_is_there, proofs.Views.seen_held, proofs.Views.write_writes}
 
 -- a lock of the transaction of this number, which was granted
 pub lock_granted : (m : LocalState) (locks : LockTable) (tx q : ℕ) (mode : Mode) → tx ≡ m.running.tx → is_some (page_at m.store.pages q) ≡ true → IsNobody (conflicts m.locks tx q mode) × (locks ≡ granted m.locks tx q mode)

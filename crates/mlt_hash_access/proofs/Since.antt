@@ -2,9 +2,7 @@
 use Rattle.std.proofs.Common.{◌≡◌, ℕ, true, Option, None, Some, is_some, unwrap_or, refl, sym, ap, ◌∙◌}
 use Rattle.std.specs.FinMap as map
 use Rattle.mlt_hash_access.proofs.Names.{false≢true, Mode, Exclusive, Page, Slot, page_with_slot, page_at, FilePages, Agrees, over, own_or_clean, IsCleanFor, MayStep, LocalState, TouchesOnePage, HasWritten, IsUnwritten, ReadsHeldPage, ReadsPage, View, WritesSlot, rebased, seen_with, view_of}
-use Rattle.mlt_hash_access.specs.LocalStates.{no_writes}
-use Rattle.mlt_hash_access.specs.Views.{IsUnwrittenSince, view_over}
-use Rattle.mlt_hash_access.proofs.OwnSteps.{own_step_sees_more}
+use Rattle.mlt_hash_access.{specs.LocalStates.no_writes, specs.Views.IsUnwrittenSince, specs.Views.view_over, proofs.OwnSteps.own_step_sees_more}
 use Rattle.mlt_hash_access.proofs.Rebased.{rebased_agrees, rebased_reads, rebased_writes_page, seen_more, written_over}
 use Rattle.mlt_hash_access.proofs.Views.{agrees, may_read, over_is_there, seen_held, written_is_exclusive}
 

@@ -4,11 +4,9 @@ use Rattle.mlt_hash_access.proofs.Names.{nat_cmp_total, cases_eq, false≢true, 
 use Rattle.std.specs.FinMap as map
 use Rattle.mlt_types.specs.declared.mode.Mode.TheVariants.{Shared}
 use Rattle.mlt_page.proofs.Numbered.{page_inserted}
-use Rattle.mlt_page_locks.specs.LockTables.{Modes, allows_write}
-use Rattle.mlt_page_locks.proofs.LockLaws.{can_read-granted}
+use Rattle.mlt_page_locks.{specs.LockTables.Modes, specs.LockTables.allows_write, proofs.LockLaws.can_read-granted}
 use Rattle.mlt_page_subtx.specs.Images.{or_image}
-use Rattle.mlt_hash_form.specs.File.{Writes}
-use Rattle.mlt_hash_form.proofs.HeldPages.{writes_over}
+use Rattle.mlt_hash_form.{specs.File.Writes, proofs.HeldPages.writes_over}
 use Rattle.mlt_hash_access.specs.Views.{SeesPage, page_written}
 use Rattle.mlt_hash_access.proofs.LocalStates.{fresh_is_free, is_locked, is_made, is_written, locked, made, page_before-made, page_before-written, written}
 

@@ -2,8 +2,7 @@
 use Rattle.std.specs.Prelude.{◌≡◌, ℕ, ◌==◌, true, cond, Option, None, List, [], ◌∷◌, is_some, unwrap_or}
 use Rattle.std.specs.Ordering.{nat_cmp}
 use Rattle.std.specs.FinMap as map
-use Rattle.mlt_page.specs.declared.page.Page.{Page}
-use Rattle.mlt_page.specs.Stores.{Pages, page_at}
+use Rattle.mlt_page.specs.{declared.page.Page.Page, Stores.Pages, Stores.page_at}
 use Rattle.mlt_page_locks.specs.LockTables.{LockTable, can_write}
 use Rattle.mlt_page_subtx.specs.Images.{Images, image_of, put_back}
 

@@ -1,14 +1,12 @@
 -- What one step of a walk works on, and what a transaction may rely on between its steps
 use Rattle.std.specs.Prelude.{ℕ, ◌≡◌, ◌≢◌, ◌<◌, true, false, is_some, Option, None}
 use Rattle.mlt_types.specs.declared.mode.Mode.{Mode}
-use Rattle.mlt_page.specs.declared.page.Page.{Page}
-use Rattle.mlt_page.specs.Stores.{Pages, PageStore, page_at}
+use Rattle.mlt_page.specs.{declared.page.Page.Page, Stores.Pages, Stores.PageStore, Stores.page_at}
 use Rattle.mlt_page_locks.specs.LockTables.{AreCompatible, HasRoom, LockTable, can_write, page_count}
 use Rattle.mlt_page_locks.specs.Requests.{granted}
 use Rattle.mlt_page_subtx.specs.Images.{AreThere, Images, Running, image_of, or_image}
 use Rattle.mlt_page_subtx.specs.Locking.{LocksPagesThere}
-use Rattle.mlt_hash_form.specs.File.{FilePages, HasForm}
-use Rattle.mlt_hash_form.specs.Held.{over}
+use Rattle.mlt_hash_form.specs.{File.FilePages, File.HasForm, Held.over}
 use Rattle.mlt_hash_access.specs.declared.locked_store.LockedStore.{LockedStore}
 
 -- a running subtransaction, the page locks of all transactions, and the store

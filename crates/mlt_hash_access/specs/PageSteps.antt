@@ -1,18 +1,11 @@
 -- One step on pages: it asks for at most one lock, and touches at most one page
 use Rattle.std.specs.Prelude.{ℕ, ◌≡◌, ◌⊎◌, true, is_some, Option, None}
 use Rattle.std.specs.FinMap as map
-use Rattle.mlt_types.specs.declared.mode.Mode.{Mode}
-use Rattle.mlt_types.specs.declared.mode.Mode.TheVariants.{Exclusive}
-use Rattle.mlt_page.specs.declared.page.Page.{Page}
-use Rattle.mlt_page.specs.declared.slot.Slot.{Slot}
-use Rattle.mlt_page.specs.Values.{BucketFields}
-use Rattle.mlt_page.specs.Pages.{page_with_slot}
-use Rattle.mlt_page.specs.Stores.{PageStore, page_at}
-use Rattle.mlt_page_locks.specs.LockTables.{can_write}
-use Rattle.mlt_page_locks.specs.Requests.{IsNobody, conflicts, granted}
+use Rattle.mlt_types.specs.declared.mode.Mode.{Mode, TheVariants.Exclusive}
+use Rattle.mlt_page.specs.{declared.page.Page.Page, declared.slot.Slot.Slot, Values.BucketFields, Pages.page_with_slot, Stores.PageStore, Stores.page_at}
+use Rattle.mlt_page_locks.specs.{LockTables.can_write, Requests.IsNobody, Requests.conflicts, Requests.granted}
 use Rattle.mlt_page_subtx.specs.Images.{with_image}
-use Rattle.mlt_hash_access.specs.LocalStates.{IsCleanFor, MayStep, LocalState}
-use Rattle.mlt_hash_access.specs.Views.{ReadsHeldBucket, view_of}
+use Rattle.mlt_hash_access.specs.{LocalStates.IsCleanFor, LocalStates.MayStep, LocalStates.LocalState, Views.ReadsHeldBucket, Views.view_of}
 
 -- page q, which is there, is locked in this mode, against which nobody else's lock stands
 pub record LocksPage (old new : LocalState) (q : ℕ) (mode : Mode) : Type 0 where

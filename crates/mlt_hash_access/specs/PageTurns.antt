@@ -1,10 +1,8 @@
 -- What one event of an operation does to locks and pages: a step on one page, and perhaps a roll back
 use Rattle.std.specs.Prelude.{◌≡◌, ◌≤◌}
-use Rattle.mlt_page_locks.specs.LockTables.{page_count}
-use Rattle.mlt_page_locks.specs.Requests.{released}
+use Rattle.mlt_page_locks.specs.{LockTables.page_count, Requests.released}
 use Rattle.mlt_page_subtx.specs.Images.{put_back, started}
-use Rattle.mlt_hash_access.specs.LocalStates.{LocalState}
-use Rattle.mlt_hash_access.specs.PageSteps.{TouchesOnePage}
+use Rattle.mlt_hash_access.specs.{LocalStates.LocalState, PageSteps.TouchesOnePage}
 
 -- One page is touched at most: it is locked and then written, or one of the two; or it is made. The transaction holds at
 -- most 300 pages.

@@ -1,10 +1,8 @@
 -- What is read on the way of a key to its bucket. Each fact is about the pages that are held alone, so that what other
 -- transactions do can't touch it.
 use Rattle.std.specs.Prelude.{ℕ, ◌≡◌, List, slice_index, Option, Some}
-use Rattle.mlt_page.specs.declared.page.Page.{Page}
-use Rattle.mlt_page.specs.Values.{BucketFields, HeadFields}
-use Rattle.mlt_hash_form.specs.File.{dir_of, row_of}
-use Rattle.mlt_hash_form.specs.Form.{value_in}
+use Rattle.mlt_page.specs.{declared.page.Page.Page, Values.BucketFields, Values.HeadFields}
+use Rattle.mlt_hash_form.specs.{File.dir_of, File.row_of, Form.value_in}
 use Rattle.mlt_hash_access.specs.Views.{View}
 
 -- the header is read, and the directory page of the key's place

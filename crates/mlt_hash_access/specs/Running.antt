@@ -2,15 +2,11 @@
 -- them
 use Rattle.std.specs.Prelude.{ℕ, ◌≡◌, ◌≢◌, ◌≤◌, Bool, true, false, is_some, unwrap_or, Option, Some}
 use Rattle.std.specs.FinMap as map
-use Rattle.mlt_page.specs.declared.page.Page.{Page}
-use Rattle.mlt_page.specs.Stores.{PageStore, page_at}
+use Rattle.mlt_page.specs.{declared.page.Page.Page, Stores.PageStore, Stores.page_at}
 use Rattle.mlt_page_locks.specs.LockTables.{AreCompatible, LockTable, is_holder, no_locks, page_count}
 use Rattle.mlt_page_locks.specs.Requests.{released}
-use Rattle.mlt_page_subtx.specs.Images.{Images, put_back}
-use Rattle.mlt_page_subtx.specs.Locking.{LocksPagesThere}
-use Rattle.mlt_hash_access.specs.LocalStates.{LocalState}
-use Rattle.mlt_hash_access.specs.Views.{view_of}
-use Rattle.mlt_hash_access.specs.CleanPages.{ImagesAreLocked, ImagesAreThere, RunningImages, clean_pages}
+use Rattle.mlt_page_subtx.specs.{Images.Images, Images.put_back, Locking.LocksPagesThere}
+use Rattle.mlt_hash_access.specs.{LocalStates.LocalState, Views.view_of, CleanPages.ImagesAreLocked, CleanPages.ImagesAreThere, CleanPages.RunningImages, CleanPages.clean_pages}
 
 -- the first images that each open transaction keeps, the page locks of all of them, and the store; a transaction that
 -- is open and runs no subtransaction keeps none

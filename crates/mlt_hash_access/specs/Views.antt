@@ -1,17 +1,10 @@
 -- What a walk holds, seen apart from all that it doesn't hold: facts about a view can't be touched by what others do
 use Rattle.std.specs.Prelude.{ℕ, ◌≡◌, cond, true, is_some, Option, None, Some}
-use Rattle.mlt_types.specs.declared.mode.Mode.{Mode}
-use Rattle.mlt_types.specs.declared.mode.Mode.TheVariants.{Exclusive}
-use Rattle.mlt_page.specs.declared.page.Page.{Page}
-use Rattle.mlt_page.specs.declared.slot.Slot.{Slot}
-use Rattle.mlt_page.specs.Values.{BucketFields}
-use Rattle.mlt_page.specs.Pages.{page_with_slot}
-use Rattle.mlt_page.specs.Stores.{page_at}
-use Rattle.mlt_page_locks.specs.LockTables.{Modes, can_read, pages_of}
-use Rattle.mlt_page_locks.specs.Requests.{with_page}
+use Rattle.mlt_types.specs.declared.mode.Mode.{Mode, TheVariants.Exclusive}
+use Rattle.mlt_page.specs.{declared.page.Page.Page, declared.slot.Slot.Slot, Values.BucketFields, Pages.page_with_slot, Stores.page_at}
+use Rattle.mlt_page_locks.specs.{LockTables.Modes, LockTables.can_read, LockTables.pages_of, Requests.with_page}
 use Rattle.mlt_page_subtx.specs.Images.{image_of}
-use Rattle.mlt_hash_form.specs.File.{FilePages}
-use Rattle.mlt_hash_form.specs.Held.{own_or_clean}
+use Rattle.mlt_hash_form.specs.{File.FilePages, Held.own_or_clean}
 use Rattle.mlt_hash_access.specs.LocalStates.{LocalState, page_before}
 
 -- What a walk holds, seen apart from all that it does not hold.

@@ -5,11 +5,8 @@ use Rattle.mlt_hash_file.proofs.Names.{cases_eq, false≢true, nat_tests, Mode, 
 use Rattle.mlt_page_locks.specs.LockTables.{allows_write, is_holder, pages_of}
 use Rattle.mlt_page_locks.specs.Requests.{IsLowest, conflicts, granted, is_against, with_page}
 use Rattle.mlt_page_subtx.proofs.ImageLaws.{not_there}
-use Rattle.mlt_hash_form.specs.File.{FilePages}
-use Rattle.mlt_hash_form.specs.Held.{Agrees}
-use Rattle.mlt_hash_access.specs.PageSteps.{LocksAtMost, LocksPage}
-use Rattle.mlt_hash_access.proofs.Rebased.{written_over}
-use Rattle.mlt_hash_access.proofs.Since.{agrees_over}
+use Rattle.mlt_hash_form.specs.{File.FilePages, Held.Agrees}
+use Rattle.mlt_hash_access.{specs.PageSteps.LocksAtMost, specs.PageSteps.LocksPage, proofs.Rebased.written_over, proofs.Since.agrees_over}
 
 -- the others have no place among the locks,
 pub no_place : (m : LocalState) (u : ℕ) → IsAlone m → u ≢ m.running.tx → map.get m.locks.held u ≡ None

@@ -2,16 +2,10 @@
 use Rattle.std.proofs.Common.{◌≡◌, ℕ, ◌≤◌, Option, None, Some, refl, sym, ap, subst, ◌∙◌, inl, inr, arith, nat_cmp}
 use Rattle.std.specs.FinSet as set
 use Rattle.mlt_hash_file.proofs.Names.{nat_tests, Page, PageStore, page_at, get_inserted, depth_of, header_of, look_up, over, IsCleanFor, MayStep, LocalState, TouchesOnePage, WritesAtMost, HasWritten, view_of, view_over, written_stays, IsAlone, context_of, pages_before, pages_since, HasChanged, HasMade, IsHashFile, IsAtRecord, Makes, WritesIfChanged, page_of, value_after, WalkContext, Before, IsAtBucket, IsStanding, Stands, WalkFields, view_for, WalkAnswer, Change, Phase}
-use Rattle.mlt_hash_form.specs.File.{HasForm}
-use Rattle.mlt_hash_form.proofs.HeldPages.{changed_values}
-use Rattle.mlt_hash_file.specs.AloneWalks.{TellsOfMaking}
-use Rattle.mlt_hash.specs.Changes.{IsChangedPhase, TellsOfChange, directory_depth_of}
-use Rattle.mlt_hash.specs.Passes.{change_to}
-use Rattle.mlt_hash.proofs.InPlace.{record_at}
-use Rattle.mlt_hash.specs.Walks.{IsChanged, MayWalk}
-use Rattle.mlt_hash.proofs.Passed.{head_is_no_bucket}
+use Rattle.mlt_hash_form.{specs.File.HasForm, proofs.HeldPages.changed_values}
+use Rattle.mlt_hash_file.{specs.AloneWalks.TellsOfMaking, proofs.AloneWalks.file_kept}
+use Rattle.mlt_hash.{specs.Changes.IsChangedPhase, specs.Changes.TellsOfChange, specs.Changes.directory_depth_of, specs.Passes.change_to, proofs.InPlace.record_at, specs.Walks.IsChanged, specs.Walks.MayWalk, proofs.Passed.head_is_no_bucket}
 use Rattle.mlt_hash_file.proofs.Alone.{alone_after_write, before_is_clean, sees_since, store_is_since, unwritten_store, write_keeps_before}
-use Rattle.mlt_hash_file.proofs.AloneWalks.{file_kept}
 
 -- **Where a walk has changed its bucket, the store has a file with the new value.**
 pub changed_alone : (context : WalkContext) (m : LocalState) (walk : WalkFields) (bucket : ℕ) (done : Change) → IsAlone m → HasWritten context.before.written (view_of m) → IsHashFile context.bits (pages_since context.before m) context.root context.max_depth → IsChanged context walk (view_for context m) bucket done

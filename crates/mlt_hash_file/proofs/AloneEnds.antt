@@ -2,11 +2,8 @@
 use Rattle.std.proofs.Common.{◌≡◌, ℕ, ◌≤◌, false, cond, Option, None, Some, is_some, unwrap_or, sym, ap, subst, ◌∙◌, inl, inr, arith, nat_cmp}
 use Rattle.std.specs.FinMap as map
 use Rattle.mlt_hash_file.proofs.Names.{cases_eq, false≢true, nat_tests, Mode, Page, PageStore, page_at, get_removed, same_entries, LockTable, Modes, can_write, Running, image_of, or_image, put_back, page_at-put_back, LocalState, page_written, view_of, IsAlone, IsIdle, KeepsBefore, pages_before, IsAtStart}
-use Rattle.mlt_page_locks.specs.LockTables.{no_locks}
-use Rattle.mlt_page_locks.proofs.LockLaws.{few_none, room_for_few}
-use Rattle.mlt_page_locks.specs.Requests.{released}
-use Rattle.mlt_page_subtx.specs.Images.{Images, started}
-use Rattle.mlt_page_subtx.proofs.LockedPages.{locks_there-none}
+use Rattle.mlt_page_locks.{specs.LockTables.no_locks, proofs.LockLaws.few_none, proofs.LockLaws.room_for_few, specs.Requests.released}
+use Rattle.mlt_page_subtx.{specs.Images.Images, specs.Images.started, proofs.LockedPages.locks_there-none}
 use Rattle.mlt_hash_access.proofs.LocalStates.{may_start}
 use Rattle.mlt_hash_file.proofs.Alone.{no_place}
 

@@ -2,10 +2,7 @@
 use Rattle.std.proofs.Common.{◌≡◌, ℕ, ◌<◌, ◌+◌, ◌∙◌, Option, Some, refl, sym, subst, inl, inr}
 use Rattle.std.specs.FinMap as map
 use Rattle.mlt_hash_file.proofs.Names.{Refusal, Page, same_pages, put_back, page_at-put_back, LocalState, KeepsBefore, context_of, pages_before, HasChanged, IsFullFor, MayAdd, NeedsRoom, NeedsSplits, NeverHasRoomFor, TellsOfPass, TellsOfSplits, added_value, WalkContext, Before, WalkFields, one_key, WalkAnswer, Pass, HasRoomAt, pages_for, pages_in_the_end}
-use Rattle.mlt_hash_file.specs.AloneWalks.{TellsOfLater, bounded_before}
-use Rattle.mlt_hash_file.specs.SplitPages.{LacksPages}
-use Rattle.mlt_hash_file.proofs.AlonePages.{same_put_back}
-use Rattle.mlt_hash_file.proofs.AloneWalks.{same_context, same_before}
+use Rattle.mlt_hash_file.{specs.AloneWalks.TellsOfLater, specs.AloneWalks.bounded_before, specs.SplitPages.LacksPages, proofs.AlonePages.same_put_back, proofs.AloneWalks.same_context, proofs.AloneWalks.same_before}
 
 -- a pass of a first key that needs no split tells what it told
 pub pass_is_later : (context : WalkContext) (new : LocalState) (before after : WalkFields) (value : ℕ) (told : WalkAnswer) → (told ≡ WalkAnswer.NeedSplit → ⊥) → TellsOfPass (one_key context) new before after value told → TellsOfLater (one_key context) new before after value told

@@ -3,8 +3,7 @@ use Rattle.std.proofs.Common.{◌≡◌, ℕ, ◌≤◌, ◌+◌, true, Option, 
 use Rattle.std.specs.Cmp.{nat_cmp_total}
 use Rattle.std.specs.FinMap as map
 use Rattle.mlt_hash_file.proofs.Names.{BucketFields, Page, PageStore, Pages, page_at, same_pages, writer_reads, put_back, page_at-put_back, MayStep, LocalState, MakesLockedPage, WritesHeldPage, SplitTarget, SplitFields, steps_left_at, IsDone, SplitPhase, KeepsBefore, gained_from, gained_pages, left_from, pages_to_make}
-use Rattle.mlt_hash_split.specs.Splits.{StandsAt}
-use Rattle.mlt_hash_split.specs.Steps.{LocksAndWrites}
+use Rattle.mlt_hash_split.specs.{Splits.StandsAt, Steps.LocksAndWrites}
 use Rattle.mlt_hash.proofs.OpenedFiles.{fresh_is_one_more}
 use Rattle.mlt_hash_file.proofs.SplitPages.{MayStandAt, closes_with_the_rest, makes_on, writes_on}
 

@@ -3,18 +3,10 @@ use Rattle.std.proofs.Common.{◌≡◌, ℕ, ◌≤◌, ◌<◌, ◌+◌, ◌^�
 use Rattle.mlt_hash_file.proofs.Names.{list_all, false≢true, Refusal, is_kept, BucketFields, Page, page_at, bucket_of, depth_of, look_up, Root, IsCleanFor, MayStep, LocalState, TouchesOnePage, WritesAtMost, HasWritten, IsUnwrittenSince, View, view_of, view_over, written_stays, IsAlone, KeepsBefore, context_of, pages_since, IsPutting, HasArrived, HasChanged, HasMade, IsFullFor, IsHashFile, IsReadySince, NeedsRoom, NeedsSplits, NeverHasRoomFor, TellsOfPass, added_value, IsAtRecord, Makes, WritesIfChanged, page_of, value_after, HasRoomAt, pages_for, pages_in_the_end, pages_left_at, pages_to_make, IsSameWalk, WalkContext, Before, IsAtBucket, IsStanding, Stands, WalkFields, view_for, WalkAnswer, Change, Pass, Phase}
 use Rattle.std.specs.FinMap as map
 use Rattle.std.specs.FinSet as set
-use Rattle.mlt_hash_form.specs.File.{buckets_of, lead_of}
-use Rattle.mlt_hash_form.specs.Room.{is_crowded}
-use Rattle.mlt_hash_form.proofs.Crowd.{crowded_in_fewer, crowded_test}
-use Rattle.mlt_hash_form.proofs.InPages.{led_at}
+use Rattle.mlt_hash_form.{specs.File.buckets_of, specs.File.lead_of, specs.Room.is_crowded, proofs.Crowd.crowded_in_fewer, proofs.Crowd.crowded_test, proofs.InPages.led_at}
 use Rattle.mlt_hash.specs.Changes.{HasNoRoom, IsAtAbsent, IsFull, NeedsSplit, TellsOfAddition, crowded_at, directory_depth_of}
-use Rattle.mlt_hash.specs.Passes.{HasRoomFrom, IsNextPass, next_of}
-use Rattle.mlt_hash.specs.Steps.{HasFound}
-use Rattle.mlt_hash_file.proofs.Alone.{alone_after_write, sees_since, unwritten_store, write_keeps_before}
-use Rattle.mlt_hash_file.proofs.AloneChanges.{made_alone, shallow_after_write, writes_at_most}
-use Rattle.mlt_hash_file.proofs.AloneWalks.{file_kept, same_context, same_since, same_walks}
-use Rattle.mlt_hash.proofs.InPlace.{absent_at}
-use Rattle.mlt_hash.proofs.Laws.{found_there, path_taken}
+use Rattle.mlt_hash.{specs.Passes.HasRoomFrom, specs.Passes.IsNextPass, specs.Passes.next_of, specs.Steps.HasFound, proofs.InPlace.absent_at, proofs.Laws.found_there, proofs.Laws.path_taken}
+use Rattle.mlt_hash_file.proofs.{Alone.alone_after_write, Alone.sees_since, Alone.unwritten_store, Alone.write_keeps_before, AloneChanges.made_alone, AloneChanges.shallow_after_write, AloneChanges.writes_at_most, AloneWalks.file_kept, AloneWalks.same_context, AloneWalks.same_since, AloneWalks.same_walks}
 
 -- a walk that has arrived is at its bucket, with what it has found,
 arrived_at : (context : WalkContext) (walk : WalkFields) (view : View) (phase : Phase) (value : Option ℕ) → HasFound phase value → Stands phase context walk view → (depth : ℕ) × IsAtBucket context walk view (page_of phase) depth value

@@ -4,23 +4,10 @@ use Rattle.mlt_hash_file.proofs.Names.{list_all, pow-le-pow_right, Refusal, is_k
 use Rattle.std.specs.FinMap as map
 use Rattle.std.specs.FinSet as set
 use Rattle.mlt_hash_access.specs.LocalStates.{HasFileOver}
-use Rattle.mlt_hash_split.specs.Splits.{steps_left}
-use Rattle.mlt_hash_split.specs.Steps.{IsMaking}
-use Rattle.mlt_hash_split.proofs.HeldPages.{clean_now}
-use Rattle.mlt_hash_split.proofs.Later.{begins_now, stands_now}
-use Rattle.mlt_hash_split.proofs.OldBucket.{depths_are_small}
-use Rattle.mlt_hash_file.specs.SplitPages.{left_from_split}
+use Rattle.mlt_hash_split.{specs.Splits.steps_left, specs.Steps.IsMaking, proofs.HeldPages.clean_now, proofs.Later.begins_now, proofs.Later.stands_now, proofs.OldBucket.depths_are_small}
+use Rattle.mlt_hash_file.{specs.SplitPages.left_from_split, proofs.Alone.before_is_clean, proofs.Alone.keeps_both, proofs.Alone.keeps_same, proofs.Alone.reads_image_back, proofs.AloneChanges.made_alone, proofs.AloneChanges.other_page_stays, proofs.AlonePages.made, proofs.AlonePages.may_stand, proofs.AlonePages.pages_close, proofs.AlonePages.pages_go_on, proofs.AlonePasses.retell_made, proofs.SplitPages.MayStandAt, proofs.SplitPages.begun, proofs.SplitPages.one_at_least, proofs.SplitPages.one_is_left, proofs.AloneWalks.file_kept, proofs.AloneWalks.same_context, proofs.AloneWalks.same_walks}
 use Rattle.mlt_hash.specs.Splitting.{BeginsSplit, HasToSplit, OfSplit, SplitCloses, SplitGoesOn, StandsOn}
-use Rattle.mlt_hash.specs.Splitting.{IsUnderWay as HasNextStep}
-use Rattle.mlt_hash.specs.Walks.{IsAdding, IsSplitting, split_target}
-use Rattle.mlt_hash_file.proofs.Alone.{before_is_clean, keeps_both, keeps_same, reads_image_back}
-use Rattle.mlt_hash_file.proofs.AloneChanges.{made_alone, other_page_stays}
-use Rattle.mlt_hash_file.proofs.AlonePages.{made, may_stand, pages_close, pages_go_on}
-use Rattle.mlt_hash.proofs.Puts.{found_below, kept_is_shallow}
-use Rattle.mlt_hash.proofs.StepsLeft.{some_is_one}
-use Rattle.mlt_hash_file.proofs.AlonePasses.{retell_made}
-use Rattle.mlt_hash_file.proofs.SplitPages.{MayStandAt, begun, one_at_least, one_is_left}
-use Rattle.mlt_hash_file.proofs.AloneWalks.{file_kept, same_context, same_walks}
+use Rattle.mlt_hash.{specs.Splitting.IsUnderWay as HasNextStep, specs.Walks.IsAdding, specs.Walks.IsSplitting, specs.Walks.split_target, proofs.Puts.found_below, proofs.Puts.kept_is_shallow, proofs.StepsLeft.some_is_one}
 
 reads_held : (b : Bool) (image : Option (Option Page)) (stored : Option Page) (read : Page) → (is_some image ≡ true → b ≡ true) → (is_some image ≡ true → is_some stored ≡ true)
     → own_or_clean (cond b (page_written image stored) None) (unwrap_or (cond b (Some (or_image image stored)) None) None) ≡ Some read → stored ≡ Some read

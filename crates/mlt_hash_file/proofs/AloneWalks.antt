@@ -2,9 +2,8 @@
 use Rattle.mlt_hash_file.proofs.Names.{over, Page, Root, LocalState, HasWritten, view_of, view_over, nothing_written, KeepsBefore, context_of, pages_before, pages_since, HasArrived, IsHashFile, IsReadySince, TellsAt, IsSameWalk, TellsOfPath, steps_to_bucket, WalkContext, Before, IsAtStart, IsStanding, Stands, WalkFields, nothing_before, view_for, WalkAnswer, Phase}
 use Rattle.std.proofs.Common.{◌<◌, ◌∙◌, ◌≡◌, Option, ap, arith, refl, subst, sym, ℕ}
 use Rattle.std.specs.FinSet as set
-use Rattle.mlt_hash_file.specs.AloneWalks.{IsFileBefore}
+use Rattle.mlt_hash_file.{specs.AloneWalks.IsFileBefore, proofs.Alone.keeps_both, proofs.Alone.keeps_same}
 use Rattle.mlt_hash.specs.Splitting.{IsUnderWay}
-use Rattle.mlt_hash_file.proofs.Alone.{keeps_both, keeps_same}
 
 -- the pages stand as they stood before, all at once
 pub same_before : (old new : LocalState) → KeepsBefore old new → pages_before new ≡ pages_before old

@@ -3,12 +3,7 @@ use Rattle.std.proofs.Common.{◌≡◌, ℕ, Option, None, Some, IsSome, sym, a
 use Rattle.mlt_hash_file.proofs.Names.{transport, cases_eq, nat_tests, Refusal, Page, Pages, page_at, same_pages, get_inserted, get_removed, same_entries, put_back, page_at-put_back, look_up, live_records, LocalState, view_of, nothing_written, IsAlone, IsIdle, KeepsBefore, context_of, pages_before, HasArrived, HasChanged, IsHashFile, IsAtRecord, WalkContext, WalkFields, nothing_before, one_key}
 use Rattle.std.specs.FinMap as map
 use Rattle.mlt_hash_form.proofs.MapChanges.{map_is_look_up}
-use Rattle.mlt_hash_file.specs.AloneWalks.{ChangesValue, RefusesFor, TellsRefusal}
-use Rattle.mlt_hash_file.specs.HashFiles.{records_after}
-use Rattle.mlt_hash_file.proofs.Alone.{keeps_both}
-use Rattle.mlt_hash_file.proofs.AloneEnds.{idle_before, idle_store}
-use Rattle.mlt_hash_file.proofs.AlonePasses.{arrived_store, found_is_value, found_record}
-use Rattle.mlt_hash_file.proofs.AloneWalks.{same_before}
+use Rattle.mlt_hash_file.{specs.AloneWalks.ChangesValue, specs.AloneWalks.RefusesFor, specs.AloneWalks.TellsRefusal, specs.HashFiles.records_after, proofs.Alone.keeps_both, proofs.AloneEnds.idle_before, proofs.AloneEnds.idle_store, proofs.AlonePasses.arrived_store, proofs.AlonePasses.found_is_value, proofs.AlonePasses.found_record, proofs.AloneWalks.same_before}
 
 -- the look-up of a key in the map of records is that in the file
 pub record_is : (bits : ℕ → ℕ) (root max_depth : ℕ) (pages : Pages) (key : ℕ) → IsHashFile bits (page_at pages) root max_depth → map.get (live_records pages) key ≡ look_up bits (page_at pages) root key

@@ -1,8 +1,7 @@
 -- A file as it is opened is a hash file without records
 use Rattle.std.proofs.Common.{◌≡◌, ℕ, ◌<◌, ◌≤◌, ◌^◌, Option, sym, ap, subst, arith}
 use Rattle.mlt_hash_file.proofs.Names.{Page, Pages, page_at, depth_of, header_of, IsHashFile}
-use Rattle.mlt_hash_form.specs.Changes.{IsOpening}
-use Rattle.mlt_hash_form.proofs.OpeningFile.{opening_has_form}
+use Rattle.mlt_hash_form.{specs.Changes.IsOpening, proofs.OpeningFile.opening_has_form}
 
 -- its directory has depth 0
 pub opened_depth : (root d b : ℕ) (pages : Pages) → IsOpening (page_at pages) root d b → depth_of (page_at pages) root ≡ 0

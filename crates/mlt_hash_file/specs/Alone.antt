@@ -3,15 +3,12 @@ use Rattle.std.specs.Prelude.{ℕ, ◌≡◌, ◌≢◌, ◌≤◌, false, Optio
 use Rattle.std.specs.Coded.{Coded, code_by, coded×}
 use Rattle.std.specs.FinMap as map
 use Rattle.std.specs.FinSet as set
-use Rattle.mlt_page.specs.declared.page.Page.{Page}
-use Rattle.mlt_page.specs.Stores.{PageStore, coded_store}
-use Rattle.mlt_hash_form.specs.Held.{over}
+use Rattle.mlt_page.specs.{declared.page.Page.Page, Stores.PageStore, Stores.coded_store}
+use Rattle.mlt_hash_form.specs.{Held.over, declared.root.Root.Root}
 use Rattle.mlt_page_locks.specs.LockTables.{LockTable, coded_table, is_holder}
 use Rattle.mlt_page_subtx.specs.Images.{Running, coded_running}
-use Rattle.mlt_hash_form.specs.declared.root.Root.{Root}
 use Rattle.mlt_hash_access.specs.LocalStates.{MayStep, LocalState, page_before}
-use Rattle.mlt_hash.specs.Walks.{WalkContext, Before}
-use Rattle.mlt_hash.specs.declared.answer.WalkAnswer.{WalkAnswer}
+use Rattle.mlt_hash.specs.{Walks.WalkContext, Walks.Before, declared.answer.WalkAnswer.WalkAnswer}
 
 -- the transaction may step, and nobody else holds a page
 pub record IsAlone (m : LocalState) : Type 0 where

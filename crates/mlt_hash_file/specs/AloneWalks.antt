@@ -1,28 +1,17 @@
 -- What walks do that run alone
-use Rattle.mlt_hash.specs.Changes.{IsChangedPhase}
+use Rattle.mlt_hash.specs.{Changes.IsChangedPhase, Steps.HasFound, Steps.IsSameWalk, StepsLeft.IsPutting, Passes.next_of, declared.pass.Pass.Pass, declared.pass.Phase.Phase, declared.answer.WalkAnswer.WalkAnswer}
 use Rattle.std.specs.Prelude.{◌+◌, ◌<◌, ◌^◌, ◌≡◌, ◌≢◌, ◌≤◌, ◌⊎◌, None, Option, Some, true, ℕ}
 use Rattle.std.specs.List.{list_all}
 use Rattle.std.specs.FinMap as map
 use Rattle.std.specs.FinSet as set
 use Rattle.mlt_types.specs.declared.refusal.Refusal.{Refusal}
-use Rattle.mlt_page.specs.Slots.{is_kept}
-use Rattle.mlt_page.specs.declared.page.Page.{Page}
-use Rattle.mlt_page.specs.Stores.{page_at}
-use Rattle.mlt_hash_form.specs.File.{HasForm, buckets_of, depth_of, look_up}
-use Rattle.mlt_hash_form.specs.Room.{IsCrowded}
-use Rattle.mlt_hash_form.specs.declared.root.Root.{Root}
+use Rattle.mlt_page.specs.{Slots.is_kept, declared.page.Page.Page, Stores.page_at}
+use Rattle.mlt_hash_form.specs.{File.HasForm, File.buckets_of, File.depth_of, File.look_up, Room.IsCrowded, declared.root.Root.Root}
 use Rattle.mlt_page_subtx.specs.Images.{put_back}
-use Rattle.mlt_hash_access.specs.LocalStates.{LocalState}
-use Rattle.mlt_hash_access.specs.Views.{HasWritten, view_of, view_over}
+use Rattle.mlt_hash_access.specs.{LocalStates.LocalState, Views.HasWritten, Views.view_of, Views.view_over}
 use Rattle.mlt_hash.specs.Walks.{WalkContext, Before, IsStanding, WalkFields, nothing_before, view_for}
-use Rattle.mlt_hash.specs.Steps.{HasFound, IsSameWalk}
-use Rattle.mlt_hash.specs.StepsLeft.{IsPutting}
 use Rattle.mlt_hash_file.specs.Alone.{context_alone, pages_before, pages_since}
-use Rattle.mlt_hash.specs.Passes.{next_of}
 use Rattle.mlt_hash_file.specs.SplitPages.{BoundedFile, HasRoomAt, LacksPages, bucket_for, pages_for, pages_in_the_end}
-use Rattle.mlt_hash.specs.declared.pass.Pass.{Pass}
-use Rattle.mlt_hash.specs.declared.pass.Phase.{Phase}
-use Rattle.mlt_hash.specs.declared.answer.WalkAnswer.{WalkAnswer}
 
 -- a hash file whose directory is no deeper than this, which is at most 16
 pub record IsHashFile (bits : ℕ → ℕ) (pages : ℕ → Option Page) (root max_depth : ℕ) : Type 0 where

@@ -1,13 +1,10 @@
 -- What a contract sees of a hash file
 use Rattle.std.specs.Prelude.{ℕ, Option, None, Some, refl}
-use Rattle.std.specs.Ordering.{nat_cmp}
-use Rattle.std.specs.Coded.{Coded, code_by, coded×, coded_ℕ}
+use Rattle.std.specs.{Ordering.nat_cmp, Coded.Coded, Coded.code_by, Coded.coded×, Coded.coded_ℕ}
 use Rattle.std.specs.FinMap as map
-use Rattle.mlt_page.specs.contracts.page.Page.{the_row}
+use Rattle.mlt_page.specs.{contracts.page.Page.the_row, Stores.Pages, Stores.page_at}
 use Rattle.mlt_types.specs.declared.refusal.Refusal.{Refusal}
-use Rattle.mlt_page.specs.Stores.{Pages, page_at}
-use Rattle.mlt_hash_file.specs.AloneWalks.{IsHashFile, RefusesFor}
-use Rattle.mlt_hash_file.specs.SplitPages.{BoundedFile}
+use Rattle.mlt_hash_file.specs.{AloneWalks.IsHashFile, AloneWalks.RefusesFor, SplitPages.BoundedFile}
 
 -- the pages of a hash file, the page of its header, how deep its directory may get and how many pages there may be, and
 -- the function from keys to pseudokeys

@@ -2,17 +2,11 @@
 use Rattle.std.specs.Prelude.{ℕ, ◌<◌, ◌+◌, ◌-◌, ◌^◌, Option, Some, None}
 use Rattle.std.specs.FinMap as map
 use Rattle.std.specs.FinSet as set
-use Rattle.mlt_page.specs.Values.{BucketFields}
-use Rattle.mlt_page.specs.declared.page.Page.{Page}
-use Rattle.mlt_page.specs.Stores.{Pages, page_at}
-use Rattle.mlt_hash_form.specs.File.{bucket_of, buckets_of, depth_of, lead_of}
-use Rattle.mlt_hash_form.specs.Room.{is_crowded}
+use Rattle.mlt_page.specs.{Values.BucketFields, declared.page.Page.Page, Stores.Pages, Stores.page_at}
+use Rattle.mlt_hash_form.specs.{File.bucket_of, File.buckets_of, File.depth_of, File.lead_of, Room.is_crowded}
 use Rattle.mlt_hash_access.specs.LocalStates.{LocalState}
-use Rattle.mlt_hash_split.specs.Splits.{SplitFields}
-use Rattle.mlt_hash_split.specs.declared.phase.SplitPhase.{SplitPhase}
-use Rattle.mlt_hash.specs.Passes.{HasRoomFrom}
-use Rattle.mlt_hash.specs.Walks.{WalkFields}
-use Rattle.mlt_hash.specs.declared.pass.Phase.{Phase}
+use Rattle.mlt_hash_split.specs.{Splits.SplitFields, declared.phase.SplitPhase.SplitPhase}
+use Rattle.mlt_hash.specs.{Passes.HasRoomFrom, Walks.WalkFields, declared.pass.Phase.Phase}
 
 -- The pages that splits make of a bucket of depth l, in a directory of depth g, until the bucket has depth d: one for each
 -- split, and those of the directory, where it gets deeper.

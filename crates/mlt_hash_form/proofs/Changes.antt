@@ -1,14 +1,9 @@
 -- What setting one slot does to the pairs of a bucket
 use Rattle.std.proofs.Common.{ℕ, ◌≡◌, ◌<◌, true, List, length, get_or, set, Option, Some, None, refl, sym, ◌∙◌, ap, inl, inr, ◌↔◌, position, nat_cmp, get_or-set_same, get_or-set_other, eq-eqb, eqb-true}
-use Rattle.mlt_hash_form.proofs.Places.{nowhere}
+use Rattle.mlt_hash_form.{proofs.Places.nowhere, specs.Pairs.HasOnePair, specs.Pairs.IsPair, specs.Pairs.SetsPair, specs.Plans.has_room}
 use Rattle.std.specs.FinSet as fin
-use Rattle.std.proofs.lemmas.List.{get_or_past}
-use Rattle.std.proofs.lemmas.Bool.{both_ways, cases_lt, cases_eq}
-use Rattle.mlt_page.specs.Slots.{is_ghost_of, is_live_of}
-use Rattle.mlt_page.specs.declared.slot.Slot.{Slot}
-use Rattle.mlt_page.specs.declared.slot.Slot.TheVariants.{Free, Live, Ghost}
-use Rattle.mlt_hash_form.specs.Pairs.{HasOnePair, IsPair, SetsPair}
-use Rattle.mlt_hash_form.specs.Plans.{has_room}
+use Rattle.std.proofs.lemmas.{List.get_or_past, Bool.both_ways, Bool.cases_lt, Bool.cases_eq}
+use Rattle.mlt_page.specs.{Slots.is_ghost_of, Slots.is_live_of, declared.slot.Slot.Slot, declared.slot.Slot.TheVariants.Free, declared.slot.Slot.TheVariants.Live, declared.slot.Slot.TheVariants.Ghost}
 
 -- a slot that passes the test has a record of the key
 live_of : (key : ℕ) (s : Slot) → is_live_of key s ≡ true → (v : ℕ) × (s ≡ Live key v)

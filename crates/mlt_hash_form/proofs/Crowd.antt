@@ -2,13 +2,9 @@
 -- Other crates cite this module.
 use Rattle.std.proofs.Common.{ℕ, zero, suc, ◌≡◌, ◌<◌, ◌≤◌, ◌-◌, ◌/◌, ◌^◌, Bool, true, false, List, [], ◌∷◌, length, map, get_or, eqb, refl, sym, ◌∙◌, ap, arith, inl, inr, ◌↔◌, eqb-true, eq-eqb, ne_eqb, nat_cmp}
 use Rattle.mlt_hash_form.proofs.Names.{list_any, cases_lt, cases_Bool, and_parts, and_from, both_ways, or_cases, get_or_past, first_bits, half, is_kept, key_of, Slot, Free, BucketFields, slot_at, IsSpread, is_used}
-use Rattle.std.specs.List.{IsDistinct, list_all, AllByRecursion}
-use Rattle.std.proofs.lemmas.Bool.{or_parts}
-use Rattle.std.proofs.lemmas.Map.Steps.{length-le_from_distinct_below}
+use Rattle.std.{specs.List.IsDistinct, specs.List.list_all, specs.List.AllByRecursion, proofs.lemmas.Bool.or_parts, proofs.lemmas.Map.Steps.length-le_from_distinct_below}
 use Rattle.std.specs.FinSet as set
-use Rattle.mlt_hash_form.specs.Room.{crowds, IsCrowded}
-use Rattle.mlt_hash_form.proofs.Bits.{first_bits-first_bits}
-use Rattle.mlt_hash_form.proofs.Splitting.{half_cases, used_from_kept}
+use Rattle.mlt_hash_form.{specs.Room.crowds, specs.Room.IsCrowded, proofs.Bits.first_bits-first_bits, proofs.Splitting.half_cases, proofs.Splitting.used_from_kept}
 
 -- the values of f below n
 values : (ℕ → ℕ) → ℕ → List ℕ

@@ -2,8 +2,7 @@
 -- Other crates cite this module.
 use Rattle.std.proofs.Common.{ℕ, ◌≡◌, ◌<◌, ◌≤◌, ◌+◌, ◌-◌, ◌*◌, ◌/◌, ◌%◌, ◌^◌, ◌==◌, cond, List, slice_index, Option, refl, sym, ◌∙◌, ap, arith, inl, inr, ◌⊎◌, eq-eqb, ne_eqb, pow_pos}
 use Rattle.mlt_hash_form.proofs.Names.{cases_eq, cases_lt, cond-true, cond-false, shr_below, Page, entries_of, entry, IsDirectory, target, IsFilling, directory_change}
-use Rattle.std.proofs.lemmas.Nat.{div-mul-add, div_below, le-div}
-use Rattle.std.proofs.Math.Nat.{pow-le-pow_right}
+use Rattle.std.proofs.{lemmas.Nat.div-mul-add, lemmas.Nat.div_below, lemmas.Nat.le-div, Math.Nat.pow-le-pow_right}
 
 page_of_place : (q r : ℕ) → r < 256 → (256 * q + r) / 256 ≡ q
 page_of_place q r h = omega arith

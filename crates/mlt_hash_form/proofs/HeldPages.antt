@@ -3,10 +3,7 @@ use Rattle.std.proofs.Common.{ℕ, ◌≡◌, Option, Some, None, refl, sym, ◌
 use Rattle.mlt_hash_form.proofs.Names.{eq_by_cmp, both_ways, cases_Bool, cond-true, cond-false, nat_cmp_total, is_kept, Slot, Free, Live, Page, ChangesRecord, IsSplit, slot_change, HasSlot, is_used, slot_at, bucket_of, buckets_of, lead_of, look_up, HasForm, Writes, over, Agrees, ChangesFile}
 use Rattle.std.specs.FinMap as map
 use Rattle.std.specs.FinSet as set
-use Rattle.mlt_hash_form.specs.Held.{own_or_clean, StoodOnHeld, KeepsFile}
-use Rattle.mlt_hash_form.proofs.InPages.{same_option}
-use Rattle.mlt_hash_form.proofs.Lookup.{found}
-use Rattle.mlt_hash_form.proofs.RecordMap.{tied, tied_itself}
+use Rattle.mlt_hash_form.{specs.Held.own_or_clean, specs.Held.StoodOnHeld, specs.Held.KeepsFile, proofs.InPages.same_option, proofs.Lookup.found, proofs.RecordMap.tied, proofs.RecordMap.tied_itself}
 
 -- what an option has that has something, as a page that a walk holds was seen as some page
 pub seen_as : {X : Type 0} (o : Option X) → is_some o ≡ true → (x : X) × (o ≡ Some x)

@@ -1,11 +1,8 @@
 -- The look-up and the change of one slot, in pages. Other crates cite this module.
 use Rattle.std.proofs.Common.{ℕ, List, ◌≡◌, ◌<◌, ◌≤◌, ◌-◌, ◌/◌, ◌%◌, ◌^◌, length, set, slice_index, Option, Some, None, refl, sym, ◌∙◌, ap, arith, ◌↔◌}
 use Rattle.mlt_hash_form.proofs.Names.{first_bits, key_of, Slot, Live, BucketFields, HeadFields, Page, header_of, entries_of, bucket_of, lead_of, buckets_of, HasForm, Writes, IsPath, look_up, slot_at, HasSlot, SetsOneSlot, MaySet, value_in}
-use Rattle.mlt_hash_form.proofs.Bits.{first_bits_below}
-use Rattle.mlt_hash_form.proofs.Lookup.{found}
-use Rattle.mlt_hash_form.proofs.Same.{form_same}
+use Rattle.mlt_hash_form.proofs.{Bits.first_bits_below, Lookup.found, Same.form_same, FillEnds.page_listed}
 use Rattle.mlt_hash_form.proofs.RecordChange.{slot_here, form_after, others_hold, record_other, record_here}
-use Rattle.mlt_hash_form.proofs.FillEnds.{page_listed}
 
 -- the kind of a page, told by what can be read of it
 pub dir_from_entries : (p : Option Page) → length (entries_of p) ≡ 256 → (d : List ℕ) × (p ≡ Some (Page.Dir d))

@@ -1,8 +1,7 @@
 -- The look-up finds exactly the live pair. Other crates cite this module.
 use Rattle.std.proofs.Common.{ℕ, ◌≡◌, ◌<◌, ◌≤◌, true, ltb, List, length, get_or, Some, None, refl, sym, ◌∙◌, ap, arith, inl, inr, ◌↔◌, option_map, eqb-true, eq-eqb, lt-ltb, le-ltb}
-use Rattle.std.specs.List.{position_or_len}
+use Rattle.std.{specs.List.position_or_len, proofs.lemmas.List.Sums.fails_before_first, proofs.lemmas.List.Sums.passes_at_first}
 use Rattle.mlt_hash_form.proofs.Names.{get_or_past, both_ways, cases_lt, cond-true, cond-false, same_Some, none-some, is_live_of, Slot, Free, Live, Ghost, BucketFields, slot_at, HasSlot, IsSpread, is_used, slot_value, value_in}
-use Rattle.std.proofs.lemmas.List.Sums.{fails_before_first, passes_at_first}
 use Rattle.mlt_hash_form.specs.Form.{value_by_lead}
 
 -- a slot that passes the test is the live one of the key

@@ -4,15 +4,7 @@ use Rattle.mlt_hash_form.proofs.Names.{eq_by_cmp, nat_cmp-IsAntisymmetric, nat_c
 use Rattle.std.specs.FinMap as map
 use Rattle.std.specs.FinSet as set
 use Rattle.mlt_types.specs.Maps.{with_entry}
-use Rattle.mlt_hash_form.specs.File.{FilePages, GivesPseudokeys}
-use Rattle.mlt_hash_form.specs.Held.{SeenPages}
-use Rattle.mlt_hash_form.proofs.HeldPages.{changed_values}
-use Rattle.mlt_hash_form.proofs.InPages.{same_option}
-use Rattle.mlt_hash_form.proofs.Lookup.{found}
-use Rattle.mlt_hash_form.proofs.OpeningFile.{opening_is_free}
-use Rattle.mlt_hash_form.proofs.SingleChanges.{none_from}
-use Rattle.mlt_hash_form.proofs.PrefixForm.{once_live}
-use Rattle.mlt_hash_form.proofs.RecordMap.{records_are_the_map, tied, tied_itself}
+use Rattle.mlt_hash_form.{specs.File.FilePages, specs.File.GivesPseudokeys, specs.Held.SeenPages, proofs.HeldPages.changed_values, proofs.InPages.same_option, proofs.Lookup.found, proofs.OpeningFile.opening_is_free, proofs.SingleChanges.none_from, proofs.PrefixForm.once_live, proofs.RecordMap.records_are_the_map, proofs.RecordMap.tied, proofs.RecordMap.tied_itself}
 
 pub map_is_look_up : (bits : ℕ → ℕ) (pages : map.FinMap nat_cmp Page) (root : ℕ) → ((k : ℕ) → bits k < 2 ^ 64) → HasForm bits (map.get pages) root → (key : ℕ) → map.get (live_records pages) key ≡ look_up bits (map.get pages) root key
 map_is_look_up bits pages root bounded file key =

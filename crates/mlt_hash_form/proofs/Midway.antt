@@ -2,8 +2,7 @@
 use Rattle.std.proofs.Common.{ℕ, ◌≡◌, ◌<◌, ◌≤◌, ◌+◌, ◌-◌, ◌*◌, ◌^◌, List, [], length, slice_index, Option, Some, None, sym, ◌∙◌, ap, arith, inl, inr, nat_cmp}
 use Rattle.mlt_hash_form.proofs.Names.{cases_eq, length-map, first_bits, BucketFields, Page, header_of, entries_of, bucket_of, entry, buckets_of, HasForm, Writes, target, IsFilling, IsLonger, IsMidway, bucket_split, directory_change}
 use Rattle.std.specs.FinSet as set
-use Rattle.mlt_hash_form.proofs.InPages.{dir_from_entries}
-use Rattle.mlt_hash_form.proofs.Fill.{fill_over, fill_made}
+use Rattle.mlt_hash_form.proofs.{InPages.dir_from_entries, Fill.fill_over, Fill.fill_made}
 
 -- a page that is no directory page is written beside the directory
 pub fill_beside : (pages pages' : ℕ → Option Page) (made dirs : List ℕ) (to old : ℕ → ℕ) (j k count n : ℕ) (p : Page) → IsFilling (directory_change dirs to old count) pages made j k → Writes pages pages' n p → (length (entries_of (pages n)) ≡ 256 → ⊥) → IsFilling (directory_change dirs to old count) pages' made j k

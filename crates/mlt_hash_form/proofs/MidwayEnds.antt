@@ -2,10 +2,8 @@
 use Rattle.std.proofs.Common.{ℕ, ◌≡◌, ◌<◌, ◌≤◌, ◌+◌, ◌-◌, ◌*◌, ◌^◌, List, length, map, slice_index, Option, Some, None, sym, ◌∙◌, ap, arith, inl, inr, nat_cmp}
 use Rattle.mlt_hash_form.proofs.Names.{cases_eq, first_bits, half, BucketFields, HeadFields, Page, header_of, entries_of, bucket_of, entry, lead_of, buckets_of, IsDirectory, HasForm, Writes, target, IsFilling, IsMidway, bucket_split, directory_change, IsSplit}
 use Rattle.std.specs.FinSet as set
-use Rattle.mlt_hash_form.proofs.InPages.{data_from_slots}
+use Rattle.mlt_hash_form.proofs.{InPages.data_from_slots, Midway.fill_beside, SplitDone.file_is_split}
 use Rattle.mlt_hash_form.proofs.FillEnds.{filled_reads, filled_listed, double_none, place_none, place_all}
-use Rattle.mlt_hash_form.proofs.Midway.{fill_beside}
-use Rattle.mlt_hash_form.proofs.SplitDone.{file_is_split}
 
 module _ (bits : ℕ → ℕ) (active : set.FinSet nat_cmp) (base one two : ℕ → Option Page) (root b new seed : ℕ) (file : HasForm bits base root) (full : length (buckets_of base b).slots ≡ 8) (fresh : base new ≡ None)
     (first_write : Writes base one new (Page.Bucket (record { depth = (buckets_of base b).depth + 1; slots = map (half bits active (buckets_of base b).depth 1) (buckets_of base b).slots })))

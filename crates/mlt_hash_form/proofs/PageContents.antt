@@ -1,8 +1,7 @@
 -- What the pages of a directory hold after a split. Other crates cite this module.
 use Rattle.std.proofs.Common.{ℕ, ◌≡◌, ◌<◌, ◌≤◌, ◌+◌, ◌*◌, ◌/◌, ◌%◌, List, slice_index, Option, ◌⊎◌}
 use Rattle.mlt_hash_form.proofs.Names.{Page, MaySplit, header_of, buckets_of, depth_of, dirs_of, entry, prefix_of, run_length, run_start}
-use Rattle.mlt_hash_form.specs.Splits.{target_of}
-use Rattle.mlt_hash_form.proofs.FillEnds.{double_right, place_right}
+use Rattle.mlt_hash_form.{specs.Splits.target_of, proofs.FillEnds.double_right, proofs.FillEnds.place_right}
 
 pub doubled_right : (base : ℕ → Option Page) (root n new x j : ℕ) (old made : List ℕ)
     → (buckets_of base n).depth ≡ depth_of base root

@@ -2,10 +2,7 @@
 -- Other crates cite this module.
 use Rattle.std.proofs.Common.{ℕ, ◌≡◌, ◌<◌, ◌≤◌, ◌/◌, ◌%◌, ◌^◌, true, List, slice_index, get_or, Option, Some, refl, sym, ◌∙◌, ap, subst, arith, ◌↔◌}
 use Rattle.mlt_hash_form.proofs.Names.{first_bits, key_of, BucketFields, HeadFields, Slot, Free, Page, IsHome, header_of, entries_of, bucket_of, lead_of, buckets_of, HasForm, IsPath, HasSlot, is_used, slot_at}
-use Rattle.mlt_hash_form.specs.File.{dir_of, row_of}
-use Rattle.mlt_hash_form.proofs.Bits.{first_bits_below}
-use Rattle.mlt_hash_form.proofs.FillEnds.{page_listed}
-use Rattle.mlt_hash_form.proofs.InPages.{dir_from_entries, data_from_slots, led_at}
+use Rattle.mlt_hash_form.{specs.File.dir_of, specs.File.row_of, proofs.Bits.first_bits_below, proofs.FillEnds.page_listed, proofs.InPages.dir_from_entries, proofs.InPages.data_from_slots, proofs.InPages.led_at}
 
 -- each pseudokey has a path
 pub path_of : (bits : ℕ → ℕ) (pages : ℕ → Option Page) (root x : ℕ) → x < 2 ^ 64 → HasForm bits pages root → (header : HeadFields) × (dir : List ℕ) × (n : ℕ) × (bucket : BucketFields) × IsPath pages root x header dir n bucket

@@ -1,13 +1,7 @@
 -- Where a search in a bucket's slots ends
 use Rattle.std.proofs.Common.{ℕ, ◌≡◌, ◌<◌, Bool, List, length, Some, None, ltb, refl, sym, ◌∙◌, arith, inl, inr, position, lt-ltb}
-use Rattle.std.specs.List.{position_or_len}
-use Rattle.std.proofs.lemmas.Bool.{cases_lt, cond-true}
-use Rattle.std.proofs.lemmas.Option.{none-some}
-use Rattle.std.proofs.lemmas.List.Sums.{fails_before_first}
-use Rattle.std.proofs.lemmas.List.Quantifiers.{position-Some}
-use Rattle.mlt_page.specs.declared.slot.Slot.{Slot}
-use Rattle.mlt_page.specs.declared.slot.Slot.TheVariants.{Free}
-use Rattle.mlt_page.specs.Values.{BucketFields}
+use Rattle.std.{specs.List.position_or_len, proofs.lemmas.Bool.cases_lt, proofs.lemmas.Bool.cond-true, proofs.lemmas.Option.none-some, proofs.lemmas.List.Sums.fails_before_first, proofs.lemmas.List.Quantifiers.position-Some}
+use Rattle.mlt_page.specs.{declared.slot.Slot.Slot, declared.slot.Slot.TheVariants.Free, Values.BucketFields}
 use Rattle.mlt_hash_form.specs.Plans.{IsNowhere, SetsFirst}
 
 -- a search that finds nothing

@@ -2,10 +2,8 @@
 use Rattle.std.proofs.Common.{ℕ, ◌≡◌, ◌<◌, ◌≤◌, ◌-◌, ◌/◌, ◌^◌, true, length, slice_index, Option, refl, sym, ◌∙◌, ap, arith, ◌↔◌, nat_cmp}
 use Rattle.std.specs.FinSet as set
 use Rattle.mlt_hash_form.proofs.Names.{first_bits, key_of, BucketFields, Live, Page, header_of, bucket_of, entry, lead_of, buckets_of, HasForm, IsOnceLive, slot_at, is_used, IsSpread}
-use Rattle.mlt_hash_form.specs.Prefixes.{IsDirPage, IsBucketPage, HasOnePrefix, IsExtendibleHashFile}
+use Rattle.mlt_hash_form.{specs.Prefixes.IsDirPage, specs.Prefixes.IsBucketPage, specs.Prefixes.HasOnePrefix, specs.Prefixes.IsExtendibleHashFile, proofs.InPages.dir_from_entries, proofs.InPages.data_from_slots, proofs.Splitting.used_from_kept}
 use Rattle.mlt_hash_form.proofs.Bits.{first_bits-first_bits, first_bits_below, with_first_bits, first_bits-with_first_bits, with_first_bits_below}
-use Rattle.mlt_hash_form.proofs.InPages.{dir_from_entries, data_from_slots}
-use Rattle.mlt_hash_form.proofs.Splitting.{used_from_kept}
 
 module _ (bits : ℕ → ℕ) (pages : ℕ → Option Page) (root : ℕ) (bounded : (k : ℕ) → bits k < 2 ^ 64) (file : HasForm bits pages root) where
   abbrev g : ℕ

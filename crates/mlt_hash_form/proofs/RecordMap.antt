@@ -1,13 +1,9 @@
 -- The live pairs of all pages are the records
 use Rattle.std.proofs.Common.{ℕ, zero, suc, ◌≡◌, true, false, List, [], ◌∷◌, ◌++◌, get_or, Option, Some, None, refl, sym, ◌∙◌, ap, inl, inr, ◌⊎◌, is_some, flat_map, nat_cmp, is_eq}
 use Rattle.mlt_hash_form.proofs.Names.{list_any, eq_by_cmp, nat_cmp-IsAntisymmetric, nat_cmp_total, cases_Bool, both_ways, cond-true, cond-false, or_cases, same_Some, none-some, Slot, Free, Live, Ghost, BucketFields, Page, bucket_of, buckets_of, IsOnceLive, slot_at, slot_value, live_records}
-use Rattle.std.specs.declared.cmp.Ordering.{Ordering}
-use Rattle.std.specs.declared.cmp.Ordering.TheVariants.{Less, Equal, Greater}
-use Rattle.std.specs.Cmp.{nat_cmp_is}
+use Rattle.std.specs.{declared.cmp.Ordering.Ordering, declared.cmp.Ordering.TheVariants.Less, declared.cmp.Ordering.TheVariants.Equal, declared.cmp.Ordering.TheVariants.Greater, Cmp.nat_cmp_is, FinMap.find}
 use Rattle.std.specs.FinMap as map
-use Rattle.std.specs.FinMap.{find}
-use Rattle.mlt_hash_form.specs.File.{HasRecord}
-use Rattle.mlt_hash_form.specs.Records.{live_pairs, IsRecordMap}
+use Rattle.mlt_hash_form.specs.{File.HasRecord, Records.live_pairs, Records.IsRecordMap}
 
 is_equal : (r : Ordering) → is_eq r ≡ true → r ≡ Equal
 is_equal Less e = cc

@@ -1,7 +1,6 @@
 -- The slot of a key's record
 use Rattle.std.proofs.Common.{◌≡◌, ℕ, List, Some, true, refl, slice_index_or, position}
-use Rattle.std.proofs.lemmas.Bool.{false≢true}
-use Rattle.std.proofs.lemmas.List.Quantifiers.{position-Some}
+use Rattle.std.proofs.lemmas.{Bool.false≢true, List.Quantifiers.position-Some}
 use Rattle.mlt_hash_form.proofs.Names.{is_live_of, Slot, Free, Live, Ghost}
 
 live_slot : (key : ℕ) (slot : Slot) → is_live_of key slot ≡ true → (own : ℕ) × (value : ℕ) × (slot ≡ Live own value)

@@ -2,11 +2,8 @@
 use Rattle.std.proofs.Common.{ℕ, ◌≡◌, ◌<◌, ◌≤◌, ◌+◌, ◌*◌, ◌^◌, ◌==◌, true, cond, map, Option, Some, None, refl, sym, ◌∙◌, ap, arith, [], ◌↔◌, eq-eqb, ne_eqb, nat_cmp}
 use Rattle.mlt_hash_form.proofs.Names.{cond-true, cond-false, first_bits, bit_at, is_kept, half, Slot, Page, header_of, bucket_of, entry, lead_of, buckets_of, IsDirectory, HasForm, HasSlot, IsSpread, SplitsBucket, spread, target, Live, IsSplit, look_up}
 use Rattle.std.specs.FinSet as set
-use Rattle.mlt_hash_form.proofs.Bits.{first_bits-first_bits, first_bits_below, first_bits_next}
-use Rattle.mlt_hash_form.proofs.Same.{form_same}
+use Rattle.mlt_hash_form.proofs.{Bits.first_bits-first_bits, Bits.first_bits_below, Bits.first_bits_next, Same.form_same, Lookup.found, InPages.same_option}
 use Rattle.mlt_hash_form.proofs.Splitting.{form_split, split_holds, split_lost, split_before, split_dropped}
-use Rattle.mlt_hash_form.proofs.Lookup.{found}
-use Rattle.mlt_hash_form.proofs.InPages.{same_option}
 
 -- the directory as the header of pages reads
 abbrev old_of : (ℕ → Option Page) → ℕ → ℕ → ℕ

@@ -2,12 +2,7 @@
 use Rattle.std.proofs.Common.{ℕ, ◌≡◌, ◌<◌, ◌≤◌, ◌+◌, ◌-◌, ◌*◌, ◌^◌, List, length, slice_index, slice_set, Option, None, Some, refl, sym, ◌∙◌, ap, arith, nat_cmp, get_or-set_same, get_or-set_other, pow-add}
 use Rattle.std.specs.FinSet as set
 use Rattle.mlt_hash_form.proofs.Names.{HeadFields, Page, IsSplit, MaySplit, buckets_of, entries_of, entry, depth_of, dirs_of, Writes, IsLonger, IsMidway, run_length, run_start, bucket_split}
-use Rattle.mlt_hash_form.specs.Form.{half_of}
-use Rattle.mlt_hash_form.specs.Splits.{WritesDirPage, next_page}
-use Rattle.mlt_hash_form.proofs.FillEnds.{entry_at}
-use Rattle.mlt_hash_form.proofs.InPages.{dir_from_entries}
-use Rattle.mlt_hash_form.proofs.Midway.{midway_over, midway_made}
-use Rattle.mlt_hash_form.proofs.MidwayEnds.{midway_double, midway_place, split_closes, split_closes_in_place}
+use Rattle.mlt_hash_form.{specs.Form.half_of, specs.Splits.WritesDirPage, specs.Splits.next_page, proofs.FillEnds.entry_at, proofs.InPages.dir_from_entries, proofs.Midway.midway_over, proofs.Midway.midway_made, proofs.MidwayEnds.midway_double, proofs.MidwayEnds.midway_place, proofs.MidwayEnds.split_closes, proofs.MidwayEnds.split_closes_in_place}
 
 module _ (bits : ℕ → ℕ) (active : set.FinSet nat_cmp) (base : ℕ → Option Page) (root x n new : ℕ) (may : MaySplit bits base root x n new) where
   -- the bucket that is split has its eight slots

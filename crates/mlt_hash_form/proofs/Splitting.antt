@@ -1,11 +1,9 @@
 -- A split of one bucket. Other crates cite this module.
 use Rattle.std.proofs.Common.{ℕ, ◌≡◌, ◌<◌, ◌≤◌, ◌+◌, ◌*◌, ◌^◌, ◌==◌, ◌&&◌, true, false, List, length, get_or, map, refl, sym, ◌∙◌, ap, arith, inl, inr, [], ◌⊎◌, ◌↔◌, eqb-true, eq-eqb, nat_cmp}
 use Rattle.mlt_hash_form.proofs.Names.{get_or_past, length-map, cases_eq, cases_lt, cases_Bool, both_ways, and_parts, and_from, first_bits, bit_at, is_kept, key_of, half, Slot, Free, Live, Ghost, BucketFields, slot_at, HasSlot, IsSpread, is_used, SplitsBucket, spread}
-use Rattle.std.proofs.lemmas.List.{get_or-map}
+use Rattle.std.proofs.{lemmas.List.get_or-map, Math.Nat.pow-suc, Math.Numerals.add-one}
 use Rattle.std.specs.FinSet as set
 use Rattle.mlt_page.specs.Slots.{kept_if}
-use Rattle.std.proofs.Math.Nat.{pow-suc}
-use Rattle.std.proofs.Math.Numerals.{add-one}
 use Rattle.mlt_hash_form.proofs.Bits.{first_bits_next, first_bits_below, side_cases, next_same, front_same, with_first_bits, first_bits-with_first_bits, with_first_bits_below}
 
 pub used_from_kept : (active : set.FinSet nat_cmp) (t : Slot) → is_kept active t ≡ true → is_used t ≡ true

@@ -2,12 +2,7 @@
 use Rattle.std.specs.Prelude.{ℕ, ◌≡◌, ◌<◌, ◌^◌, ◌⊎◌, true, false, Option, Some, None, replicate, slice_index_or, ◌↔◌}
 use Rattle.std.specs.Ordering.{nat_cmp}
 use Rattle.std.specs.FinSet as set
-use Rattle.mlt_page.specs.Pages.{page_with_slot}
-use Rattle.mlt_page.specs.Slots.{is_kept}
-use Rattle.mlt_page.specs.declared.slot.Slot.{Slot}
-use Rattle.mlt_page.specs.declared.slot.Slot.TheVariants.{Free}
-use Rattle.mlt_page.specs.Values.{BucketFields}
-use Rattle.mlt_page.specs.declared.page.Page.{Page}
+use Rattle.mlt_page.specs.{Pages.page_with_slot, Slots.is_kept, declared.slot.Slot.Slot, declared.slot.Slot.TheVariants.Free, Values.BucketFields, declared.page.Page.Page}
 use Rattle.mlt_hash_form.specs.Form.{HasSlot, SetsOneSlot, is_used, slot_at}
 use Rattle.mlt_hash_form.specs.File.{FilePages, GivesPseudokeys, HasForm, Writes, buckets_of, lead_of, look_up}
 

@@ -1,10 +1,7 @@
 -- A hash file in pages: its header, the pages of its directory, and its buckets. Pages are seen as a look-up by
 -- page number; `root` is the page of the header.
 use Rattle.std.specs.Prelude.{ℕ, ◌≡◌, ◌<◌, ◌≤◌, ◌-◌, ◌/◌, ◌%◌, ◌^◌, List, [], length, slice_index, Option, Some, None}
-use Rattle.mlt_page.specs.Bits.{first_bits}
-use Rattle.mlt_page.specs.declared.slot.Slot.TheVariants.{Live}
-use Rattle.mlt_page.specs.Values.{BucketFields, HeadFields}
-use Rattle.mlt_page.specs.declared.page.Page.{Page}
+use Rattle.mlt_page.specs.{Bits.first_bits, declared.slot.Slot.TheVariants.Live, Values.BucketFields, Values.HeadFields, declared.page.Page.Page}
 use Rattle.mlt_hash_form.specs.Form.{IsSpread, HasSlot, slot_at, value_by_lead}
 
 -- the page of each number, if there is one

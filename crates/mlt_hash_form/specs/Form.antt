@@ -3,11 +3,7 @@
 use Rattle.std.specs.Prelude.{ℕ, ◌≡◌, ◌<◌, ◌≤◌, ◌+◌, ◌^◌, Bool, true, false, List, length, slice_index_or, slice_set, map, Option, option_map, position}
 use Rattle.std.specs.Ordering.{nat_cmp}
 use Rattle.std.specs.FinSet as set
-use Rattle.mlt_page.specs.Bits.{first_bits, bit_at}
-use Rattle.mlt_page.specs.Slots.{is_live_of, key_of, half}
-use Rattle.mlt_page.specs.declared.slot.Slot.{Slot}
-use Rattle.mlt_page.specs.declared.slot.Slot.TheVariants.{Free, Live, Ghost}
-use Rattle.mlt_page.specs.Values.{BucketFields}
+use Rattle.mlt_page.specs.{Bits.first_bits, Bits.bit_at, Slots.is_live_of, Slots.key_of, Slots.half, declared.slot.Slot.Slot, declared.slot.Slot.TheVariants.Free, declared.slot.Slot.TheVariants.Live, declared.slot.Slot.TheVariants.Ghost, Values.BucketFields}
 
 -- slot i of page n; it reads as free where the page has no such slot
 abbrev pub slot_at : (ℕ → BucketFields) → ℕ → ℕ → Slot

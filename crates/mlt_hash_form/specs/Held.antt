@@ -2,14 +2,8 @@
 use Rattle.std.specs.Prelude.{ℕ, ◌≡◌, ◌⊎◌, true, false, Option, Some, None, is_some, slice_index_or}
 use Rattle.std.specs.Ordering.{nat_cmp}
 use Rattle.std.specs.FinSet as set
-use Rattle.mlt_page.specs.Slots.{is_kept}
-use Rattle.mlt_page.specs.Values.{BucketFields}
-use Rattle.mlt_page.specs.declared.slot.Slot.{Slot}
-use Rattle.mlt_page.specs.declared.slot.Slot.TheVariants.{Free}
-use Rattle.mlt_page.specs.declared.page.Page.{Page}
-use Rattle.mlt_hash_form.specs.Form.{HasSlot, is_used, slot_at}
-use Rattle.mlt_hash_form.specs.File.{FilePages, buckets_of, HasForm}
-use Rattle.mlt_hash_form.specs.Changes.{ChangesRecord, SlotChange}
+use Rattle.mlt_page.specs.{Slots.is_kept, Values.BucketFields, declared.slot.Slot.Slot, declared.slot.Slot.TheVariants.Free, declared.page.Page.Page}
+use Rattle.mlt_hash_form.specs.{Form.HasSlot, Form.is_used, Form.slot_at, File.FilePages, File.buckets_of, File.HasForm, Changes.ChangesRecord, Changes.SlotChange}
 
 -- Of each page that a walk holds, what the clean pages have of it: None of a page that it doesn't hold, and
 -- `Some None` of one that it made

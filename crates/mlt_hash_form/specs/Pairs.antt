@@ -1,7 +1,6 @@
 -- The live pairs of a bucket, and what a change makes of them
 use Rattle.std.specs.Prelude.{ℕ, ◌≡◌, List, slice_index_or, Option, Some, ◌↔◌}
-use Rattle.mlt_page.specs.declared.slot.Slot.{Slot}
-use Rattle.mlt_page.specs.declared.slot.Slot.TheVariants.{Free, Live}
+use Rattle.mlt_page.specs.declared.slot.Slot.{Slot, TheVariants.Free, TheVariants.Live}
 
 -- the key and the value stand in a live slot
 abbrev pub IsPair : List Slot → ℕ → ℕ → Type 0

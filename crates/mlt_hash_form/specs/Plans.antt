@@ -2,12 +2,7 @@
 use Rattle.std.specs.Prelude.{ℕ, ◌≡◌, ◌<◌, Bool, true, false, not, List, length, slice_index_or, slice_set}
 use Rattle.std.specs.Ordering.{nat_cmp}
 use Rattle.std.specs.FinSet as set
-use Rattle.mlt_page.specs.Slots.{is_kept}
-use Rattle.mlt_page.specs.declared.slot.Slot.{Slot}
-use Rattle.mlt_page.specs.declared.slot.Slot.TheVariants.{Free}
-use Rattle.mlt_page.specs.declared.page.Page.{Page}
-use Rattle.mlt_page.specs.Values.{BucketFields}
-use Rattle.mlt_page.specs.Pages.{page_with_slot}
+use Rattle.mlt_page.specs.{Slots.is_kept, declared.slot.Slot.Slot, declared.slot.Slot.TheVariants.Free, declared.page.Page.Page, Values.BucketFields, Pages.page_with_slot}
 
 -- a slot of a page, and what it is to be
 pub record WriteFields : Type 0 where

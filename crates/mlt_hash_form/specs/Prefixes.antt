@@ -2,10 +2,7 @@
 use Rattle.std.specs.Prelude.{ℕ, List, ◌≡◌, ◌<◌, ◌≤◌, ◌-◌, ◌/◌, ◌^◌, true, length, slice_index, Option, Some, ◌↔◌}
 use Rattle.std.specs.Ordering.{nat_cmp}
 use Rattle.std.specs.FinSet as set
-use Rattle.mlt_page.specs.Bits.{first_bits}
-use Rattle.mlt_page.specs.Slots.{is_kept, key_of}
-use Rattle.mlt_page.specs.Values.{BucketFields}
-use Rattle.mlt_page.specs.declared.page.Page.{Page}
+use Rattle.mlt_page.specs.{Bits.first_bits, Slots.is_kept, Slots.key_of, Values.BucketFields, declared.page.Page.Page}
 use Rattle.mlt_hash_form.specs.Form.{slot_at}
 use Rattle.mlt_hash_form.specs.File.{FilePages, entry, header_of, depth_of, dirs_of, buckets_of, IsOnceLive}
 

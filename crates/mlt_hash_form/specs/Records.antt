@@ -2,9 +2,7 @@
 use Rattle.std.specs.Prelude.{ℕ, ◌≡◌, List, [], ◌∷◌, Some, ◌↔◌, flat_map}
 use Rattle.std.specs.Ordering.{nat_cmp}
 use Rattle.std.specs.FinMap as map
-use Rattle.mlt_page.specs.declared.slot.Slot.{Slot}
-use Rattle.mlt_page.specs.declared.slot.Slot.TheVariants.{Free, Live, Ghost}
-use Rattle.mlt_page.specs.declared.page.Page.{Page}
+use Rattle.mlt_page.specs.declared.{slot.Slot.Slot, slot.Slot.TheVariants.Free, slot.Slot.TheVariants.Live, slot.Slot.TheVariants.Ghost, page.Page.Page}
 use Rattle.mlt_hash_form.specs.File.{FilePages, HasRecord, buckets_of}
 
 -- the key and the value of a live slot

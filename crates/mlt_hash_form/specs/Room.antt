@@ -1,12 +1,8 @@
 -- When an addition finds no room, however far the directory is split
 use Rattle.std.specs.Prelude.{ℕ, ◌≡◌, ◌<◌, ◌==◌, ◌&&◌, Bool, true, List}
-use Rattle.std.specs.List.{list_all}
-use Rattle.std.specs.Ordering.{nat_cmp}
+use Rattle.std.specs.{List.list_all, Ordering.nat_cmp}
 use Rattle.std.specs.FinSet as set
-use Rattle.mlt_page.specs.Bits.{first_bits}
-use Rattle.mlt_page.specs.Slots.{is_kept, key_of}
-use Rattle.mlt_page.specs.Values.{BucketFields}
-use Rattle.mlt_page.specs.declared.slot.Slot.{Slot}
+use Rattle.mlt_page.specs.{Bits.first_bits, Slots.is_kept, Slots.key_of, Values.BucketFields, declared.slot.Slot.Slot}
 use Rattle.mlt_hash_form.specs.Form.{slot_at}
 
 -- a record or an open transaction's ghost, whose key agrees with the pseudokey x in the first d bits: it takes room

@@ -2,11 +2,8 @@
 use Rattle.std.specs.Prelude.{ℕ, ◌≡◌, ◌<◌, ◌≤◌, ◌+◌, ◌-◌, ◌*◌, ◌/◌, ◌%◌, ◌^◌, ◌==◌, ◌⊎◌, List, length, slice_index, Some, if◌then◌else◌}
 use Rattle.std.specs.Ordering.{nat_cmp}
 use Rattle.std.specs.FinSet as set
-use Rattle.mlt_page.specs.Bits.{first_bits}
-use Rattle.mlt_page.specs.Values.{BucketFields}
-use Rattle.mlt_page.specs.declared.page.Page.{Page}
-use Rattle.mlt_hash_form.specs.Form.{half_of}
-use Rattle.mlt_hash_form.specs.Changes.{IsSplit, MaySplit}
+use Rattle.mlt_page.specs.{Bits.first_bits, Values.BucketFields, declared.page.Page.Page}
+use Rattle.mlt_hash_form.specs.{Form.half_of, Changes.IsSplit, Changes.MaySplit}
 use Rattle.mlt_hash_form.specs.File.{FilePages, depth_of, dirs_of, entries_of, entry, buckets_of, Writes}
 
 -- What a split of a bucket of depth l leaves at a place of the directory, which had depth g and gets depth g': page

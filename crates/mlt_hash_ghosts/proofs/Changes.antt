@@ -4,13 +4,8 @@ use Rattle.std.specs.FinSet as fin
 use Rattle.mlt_hash_ghosts.proofs.Names.{both_ways, cases_eq, none-some, is_ghost_of, is_kept, is_live_of, BucketFields, Slot, Free, Live, Ghost, slot_at, value_in, FilePages, HasRecord, buckets_of, IsGhostAt, IsInStep, PagesMatchOperations, Presence, Added, Removed, Standing, TakeTurns, last_of, IsOpenIn, Ledger}
 use Rattle.mlt_hash_form.specs.Changes.{ChangesRecord, IsHome, Spot, slot_of, slot_change}
 use Rattle.mlt_hash_form.specs.File.{bucket_of}
-use Rattle.mlt_hash_ghosts.specs.Operations.{Appends}
-use Rattle.mlt_hash_ghosts.specs.Ledgers.{NoOtherLast, last_by}
-use Rattle.mlt_hash_ghosts.specs.Events.{ChangesSlot, IsRoomFor, MayAddKey, MayRemoveKey}
-use Rattle.mlt_hash_ghosts.proofs.InStep.{frame, gone, made}
+use Rattle.mlt_hash_ghosts.{specs.Operations.Appends, specs.Ledgers.NoOtherLast, specs.Ledgers.last_by, specs.Events.ChangesSlot, specs.Events.IsRoomFor, specs.Events.MayAddKey, specs.Events.MayRemoveKey, proofs.InStep.frame, proofs.InStep.gone, proofs.InStep.made, proofs.SlotTests.ghost_from, proofs.SlotTests.live_from, proofs.SlotTests.no_ghost, proofs.SlotTests.no_live, proofs.Slots.ghost_home, proofs.Slots.live_home, proofs.Slots.slot_cases, proofs.Slots.slot_here}
 use Rattle.mlt_hash_ghosts.proofs.Lists.{last_append, last_cases, none_last, not_empty, turns_append, turns_front}
-use Rattle.mlt_hash_ghosts.proofs.SlotTests.{ghost_from, live_from, no_ghost, no_live}
-use Rattle.mlt_hash_ghosts.proofs.Slots.{ghost_home, live_home, slot_cases, slot_here}
 
 module _ (ledger : Ledger) (pages' : FilePages) (key n i : ℕ) (bucket : BucketFields) (matches : PagesMatchOperations ledger) (home : IsHome ledger.bits ledger.pages ledger.root key n bucket) (small : i < 8) where
   same_slots : (buckets_of ledger.pages n).slots ≡ bucket.slots

@@ -3,8 +3,7 @@ use Rattle.std.proofs.Common.{ℕ, ◌≡◌, Bool, List, get_or, Option, Some, 
 use Rattle.std.proofs.lemmas.List.Quantifiers.{position-Some}
 use Rattle.mlt_hash_ghosts.proofs.Names.{is_ghost_of, is_live_of, Page, Slot, Free, Live, Ghost, slot_at, value_in, HasForm, buckets_of, lead_of, IsGhostAt, PagesMatchOperations, IsOpenIn, Ledger, Added, Removed, last_of}
 use Rattle.mlt_hash_form.specs.Form.{slot_value}
-use Rattle.mlt_hash_ghosts.proofs.SlotTests.{ghost_from, live_from, no_ghost, no_live_test}
-use Rattle.mlt_hash_ghosts.proofs.Slots.{ghost_home, live_home}
+use Rattle.mlt_hash_ghosts.proofs.{SlotTests.ghost_from, SlotTests.live_from, SlotTests.no_ghost, SlotTests.no_live_test, Slots.ghost_home, Slots.live_home}
 
 module _ (bits : ℕ → ℕ) (pages : ℕ → Option Page) (root key owner : ℕ) (form : HasForm bits pages root) where
   found_is_ghost : (i : ℕ) → position (is_ghost_of key owner) (buckets_of pages (lead_of pages root (bits key))).slots ≡ Some i → IsGhostAt pages owner key (lead_of pages root (bits key)) i

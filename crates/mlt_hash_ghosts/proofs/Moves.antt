@@ -2,11 +2,9 @@
 use Rattle.std.proofs.Common.{Bool, ℕ, ◌≡◌, ◌≤◌, true, refl, sym, ◌∙◌, ap, subst, inl, inr, nat_cmp}
 use Rattle.std.specs.FinSet as fin
 use Rattle.mlt_hash_ghosts.proofs.Names.{is_kept, Slot, Live, Ghost, slot_at, FilePages, HasForm, HasRecord, buckets_of, both_ways, IsGhostAt, IsInStep, PagesMatchOperations, Ledger, last_of}
-use Rattle.mlt_hash_form.specs.Form.{is_used}
+use Rattle.mlt_hash_form.{specs.Form.is_used, proofs.Splitting.used_from_kept}
 use Rattle.mlt_hash_form.specs.Held.{Agrees, KeepsFile, RearrangesSlots, SeenPages, over}
-use Rattle.mlt_hash_form.proofs.Splitting.{used_from_kept}
-use Rattle.mlt_hash_ghosts.specs.Moves.{MovesSlots}
-use Rattle.mlt_hash_ghosts.proofs.Slots.{ghost_home}
+use Rattle.mlt_hash_ghosts.{specs.Moves.MovesSlots, proofs.Slots.ghost_home}
 
 -- slots that are moved twice, and those that a walk rearranged
 pub moves_joined : (bits : ℕ → ℕ) (stays : Slot → Bool) (one two three : FilePages) (root : ℕ)

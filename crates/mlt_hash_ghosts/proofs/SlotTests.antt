@@ -1,10 +1,7 @@
 -- What the tests of a slot say, and look-ups by them in a bucket
 use Rattle.std.proofs.Common.{ℕ, ◌≡◌, ◌<◌, ◌==◌, Bool, true, false, List, length, get_or, Option, Some, None, refl, sym, ◌∙◌, inl, inr, arith, position, option_map, eq-eqb, eqb-true, lt-ltb}
-use Rattle.std.specs.List.{position_or_len}
+use Rattle.std.{specs.List.position_or_len, proofs.lemmas.Bool.and_from, proofs.lemmas.Bool.and_parts, proofs.lemmas.Bool.cases_lt, proofs.lemmas.Bool.cond-true, proofs.lemmas.List.get_or_past, proofs.lemmas.List.Sums.fails_before_first}
 use Rattle.mlt_hash_ghosts.proofs.Names.{both_ways, none-some, is_ghost_of, is_live_of, Slot, Free, Live, Ghost, value_in}
-use Rattle.std.proofs.lemmas.Bool.{and_from, and_parts, cases_lt, cond-true}
-use Rattle.std.proofs.lemmas.List.{get_or_past}
-use Rattle.std.proofs.lemmas.List.Sums.{fails_before_first}
 use Rattle.mlt_hash_form.proofs.Lookup.{live_passes}
 
 -- what the tests of a slot say

@@ -2,13 +2,10 @@
 use Rattle.std.specs.Prelude.{ℕ, ◌≡◌, false, Option, None, position}
 use Rattle.std.specs.Ordering.{nat_cmp}
 use Rattle.std.specs.FinSet as set
-use Rattle.mlt_page.specs.Slots.{is_ghost_of, is_kept}
-use Rattle.mlt_page.specs.declared.slot.Slot.{Slot}
-use Rattle.mlt_hash_form.specs.Form.{value_in}
-use Rattle.mlt_hash_form.specs.File.{FilePages}
+use Rattle.mlt_page.specs.{Slots.is_ghost_of, Slots.is_kept, declared.slot.Slot.Slot}
+use Rattle.mlt_hash_form.specs.{Form.value_in, File.FilePages}
 use Rattle.mlt_hash_form.specs.Changes.{ChangesRecord, IsAtHome, Spot, slot_of, slot_change}
-use Rattle.mlt_hash_ghosts.specs.Ledgers.{IsOpenIn, Ledger, NoOtherLast}
-use Rattle.mlt_hash_ghosts.specs.Operations.{Added, Removed}
+use Rattle.mlt_hash_ghosts.specs.{Ledgers.IsOpenIn, Ledgers.Ledger, Ledgers.NoOtherLast, Operations.Added, Operations.Removed}
 
 -- In the bucket that the key leads to, one slot becomes `made`, and with it the key has this value, or none. The
 -- clean pages are then `pages`.

@@ -1,10 +1,8 @@
 -- Ghosts, and the operations for whose sake they are there
 use Rattle.std.specs.Prelude.{ℕ, ◌≡◌, ◌≤◌, Bool, false, [], Option, Some, None}
 use Rattle.mlt_page.specs.declared.slot.Slot.TheVariants.{Ghost}
-use Rattle.mlt_hash_form.specs.Form.{slot_at}
-use Rattle.mlt_hash_form.specs.File.{FilePages, HasRecord, buckets_of, lead_of}
-use Rattle.mlt_hash_ghosts.specs.Ledgers.{IsOpenIn, Ledger, last_by}
-use Rattle.mlt_hash_ghosts.specs.Operations.{Presence, Added, Removed, TakeTurns}
+use Rattle.mlt_hash_form.specs.{Form.slot_at, File.FilePages, File.HasRecord, File.buckets_of, File.lead_of}
+use Rattle.mlt_hash_ghosts.specs.{Ledgers.IsOpenIn, Ledgers.Ledger, Ledgers.last_by, Operations.Presence, Operations.Added, Operations.Removed, Operations.TakeTurns}
 
 -- a ghost of the transaction and key, with value 0, stands in the bucket that the key's bits lead to
 abbrev pub HasGhost : (ℕ → ℕ) → FilePages → ℕ → ℕ → ℕ → Type 0

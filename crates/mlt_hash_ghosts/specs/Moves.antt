@@ -1,8 +1,7 @@
 -- Slots that go to other buckets
 use Rattle.std.specs.Prelude.{ℕ, ◌≡◌, Bool, true}
 use Rattle.mlt_page.specs.declared.slot.Slot.{Slot}
-use Rattle.mlt_hash_form.specs.Form.{HasSlot, is_used, slot_at}
-use Rattle.mlt_hash_form.specs.File.{FilePages, HasForm, buckets_of}
+use Rattle.mlt_hash_form.specs.{Form.HasSlot, Form.is_used, Form.slot_at, File.FilePages, File.HasForm, File.buckets_of}
 
 -- The file has its form. Each slot that is to stay stands in some bucket as before, and each record
 -- or ghost stood before at the same place of some bucket.

@@ -3,14 +3,9 @@ use Rattle.std.proofs.Common.{◌≡◌, ◌≢◌, ◌⊎◌, ℕ, ◌<◌, ◌
 use Rattle.std.specs.FinMap as map
 use Rattle.std.specs.FinSet as set
 use Rattle.mlt_hash_pair.proofs.Names.{Exclusive, Page, BucketFields, Modes, can_write, own_or_clean, MayStep, LocalState, WritesAtMost, ReadsHeldBucket, View, WritesSlot, view_of, WriteFields, HasChanged, IsHolding, OwesChange, OwesIf, TellsOfTwo, task_in, task_of, HoldsDescents, IsFinding, IsFound, PairFields, later_of, FitsFound, IsPlan, HasRead, IsLocked, IsThere, found_of, page_of, MayPlan, TellsOfOne, Descent, ChangeAnswer, Side, PairChanges, RecordChange}
-use Rattle.mlt_hash_access.specs.Views.{IsUnwritten}
-use Rattle.mlt_hash_access.proofs.Views.{may_write, write_writes}
+use Rattle.mlt_hash_access.{specs.Views.IsUnwritten, proofs.Views.may_write, proofs.Views.write_writes}
 use Rattle.mlt_hash_pair.specs.Changes.{FitsBoth, HoldsOn, IsSide, MakesOwed, MayWriteEarlier, Owes, StandsBehind}
-use Rattle.mlt_hash_pair.specs.Pairs.{later_page}
-use Rattle.mlt_hash_pair.proofs.Makes.{second_is_not_third}
-use Rattle.mlt_hash_pair.proofs.Together.{later_left, later_right}
-use Rattle.mlt_hash_pair.proofs.Readings.{read_still}
-use Rattle.mlt_hash_pair.proofs.Slots.{fits_slots, plan_number}
+use Rattle.mlt_hash_pair.{specs.Pairs.later_page, proofs.Makes.second_is_not_third, proofs.Together.later_left, proofs.Together.later_right, proofs.Readings.read_still, proofs.Slots.fits_slots, proofs.Slots.plan_number}
 
 -- **A pair that has found its keys may plan the changes that fit what was found.**
 pub may_plan : (bits : ℕ → ℕ) (root key : ℕ) (view : View) (descent : Descent) (asked : Option RecordChange) → IsThere descent → HasRead bits root key view descent → IsUnwritten view → FitsFound asked (found_of descent) → MayPlan asked key (page_of descent) view

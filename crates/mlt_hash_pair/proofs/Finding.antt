@@ -3,14 +3,9 @@ use Rattle.std.proofs.Common.{◌≡◌, ℕ, ◌<◌, ◌≤◌, true, Option, 
 use Rattle.mlt_hash_pair.proofs.Names.{Mode, Page, HeadFields, HasForm, header_of, Agrees, LocalState, view_of, GoTogether, IsFinding, IsUnderWay, MayFind, PairFields, later_of, mode_next, most_steps, page_next, next_page, next_descent, descent_after, TellsOfStep, told_by, IsThere, page_of, pages_to_read, Descent, PairAnswer}
 use Rattle.mlt_page.specs.Stores.{page_at}
 use Rattle.mlt_page_locks.specs.LockTables.{page_count}
-use Rattle.mlt_hash_access.specs.PageSteps.{Leaves, LocksPage}
-use Rattle.mlt_hash_access.specs.Views.{ReadsHeldPage, ReadsPage, SeesPage}
-use Rattle.mlt_hash_access.proofs.Unwritten.{sees_page, unwritten_still}
-use Rattle.mlt_hash_access.proofs.Views.{agrees, count_after_read, page_count_of_view, reads_seen}
-use Rattle.mlt_hash_pair.specs.Steps.{GoesOn, HasFound}
-use Rattle.mlt_hash_pair.proofs.Locks.{holds_after}
+use Rattle.mlt_hash_access.{specs.PageSteps.Leaves, specs.PageSteps.LocksPage, specs.Views.ReadsHeldPage, specs.Views.ReadsPage, specs.Views.SeesPage, proofs.Unwritten.sees_page, proofs.Unwritten.unwritten_still, proofs.Views.agrees, proofs.Views.count_after_read, proofs.Views.page_count_of_view, proofs.Views.reads_seen}
+use Rattle.mlt_hash_pair.{specs.Steps.GoesOn, specs.Steps.HasFound, proofs.Locks.holds_after, proofs.Readings.read_after}
 use Rattle.mlt_hash_pair.proofs.Nexts.{KindIs, NextIs, has_next, kind_of_next, next_is, next_there, reads_on}
-use Rattle.mlt_hash_pair.proofs.Readings.{read_after}
 use Rattle.mlt_hash_pair.proofs.Together.{IsFurther, either_way, goes_further, lead_goes_on, more_to_come}
 
 -- a header that a descent reads is no deeper than 16 bits

@@ -4,10 +4,8 @@ use Rattle.std.specs.FinMap as map
 use Rattle.std.specs.FinSet as set
 use Rattle.mlt_hash_pair.proofs.Names.{none-some, Mode, Page, Modes, look_up, Agrees, LocalState, IsSameView, View, view_of, WriteFields, HasChanged, IsHolding, OwesIf, IsFinding, IsFound, PairFields, HasRead, IsThere, found_of, Descent}
 use Rattle.mlt_page_locks.specs.LockTables.{can_read, pages_of}
-use Rattle.mlt_hash_access.proofs.Reading.{read_is_there}
-use Rattle.mlt_hash_access.proofs.Views.{own_free}
-use Rattle.mlt_hash_pair.specs.Changes.{KeepsNoMore}
-use Rattle.mlt_hash_pair.specs.Pairs.{find_by}
+use Rattle.mlt_hash_access.proofs.{Reading.read_is_there, Views.own_free}
+use Rattle.mlt_hash_pair.specs.{Changes.KeepsNoMore, Pairs.find_by}
 
 -- who holds no page reads none
 reads_none : (m : LocalState) (q : ℕ) → pages_of m.locks m.running.tx ≡ map.empty → can_read m.locks m.running.tx q ≡ false

@@ -4,10 +4,8 @@ use Rattle.std.specs.FinMap as map
 use Rattle.mlt_hash_pair.proofs.Names.{cases_eq, cond_both, Mode, Exclusive, Page, View, SeesMore, HoldsDescents, next_mode, next_page, descent_after, descent_by, HasRead, IsLocked, IsNext, Descent}
 use Rattle.mlt_types.specs.declared.mode.Mode.TheVariants.{Shared}
 use Rattle.mlt_page_locks.specs.Requests.{stronger, with_page}
-use Rattle.mlt_hash_access.specs.Reading.{HasReadPlace}
-use Rattle.mlt_hash_access.proofs.Views.{mode_of_others, mode_of_page}
-use Rattle.mlt_hash_pair.proofs.Nexts.{KindIs, after_next}
-use Rattle.mlt_hash_pair.proofs.Readings.{read_after}
+use Rattle.mlt_hash_access.{specs.Reading.HasReadPlace, proofs.Views.mode_of_others, proofs.Views.mode_of_page}
+use Rattle.mlt_hash_pair.proofs.{Nexts.KindIs, Nexts.after_next, Readings.read_after}
 
 -- the mode in which pages of a kind are locked
 abbrev mode_for : Page → Mode

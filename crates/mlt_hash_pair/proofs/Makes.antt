@@ -7,10 +7,7 @@ use Rattle.mlt_hash_pair.proofs.Names.{cases_eq, cond-false, cond-true, false≢
 use Rattle.mlt_page_locks.proofs.Maps.{get_removed, same_entries}
 use Rattle.mlt_page_subtx.specs.Images.{Images, image_of}
 use Rattle.mlt_hash_access.proofs.Unwritten.{unwritten_image}
-use Rattle.mlt_hash_pair.specs.Changes.{IsFull, MakesAsked}
-use Rattle.mlt_hash_pair.specs.Writing.{HasPlan, OwesPlan}
-use Rattle.mlt_hash_pair.proofs.Together.{later_left, later_right}
-use Rattle.mlt_hash_pair.proofs.Slots.{fits_after, plan_number}
+use Rattle.mlt_hash_pair.{specs.Changes.IsFull, specs.Changes.MakesAsked, specs.Writing.HasPlan, specs.Writing.OwesPlan, proofs.Together.later_left, proofs.Together.later_right, proofs.Slots.fits_after, proofs.Slots.plan_number}
 
 -- **The write of a transaction that has written one page alone is not its third.**
 pub second_is_not_third : (m : LocalState) (n : ℕ) → MayStep m → ((q : ℕ) → q ≢ n → (view_of m).own q ≡ None) → 2 ≤ map.len m.running.images → ⊥

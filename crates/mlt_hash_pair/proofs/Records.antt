@@ -2,16 +2,12 @@
 use Rattle.std.proofs.Common.{◌≡◌, ◌≢◌, ℕ, ◌<◌, ◌/◌, ◌%◌, Bool, true, List, Option, None, Some, sym, ap, subst, ◌∙◌, inl, inr, slice_index, slice_index_or, nat_cmp}
 use Rattle.std.specs.FinSet as set
 use Rattle.std.proofs.lemmas.Bool.{not-true}
-use Rattle.mlt_page.specs.Bits.{first_bits}
+use Rattle.mlt_page.specs.{Bits.first_bits, Slots.is_kept}
 use Rattle.mlt_hash_pair.proofs.Names.{is_ghost_of, is_live_of, Page, Slot, Free, Ghost, Live, BucketFields, HeadFields, HasForm, look_up, value_in, Agrees, own_or_clean, View, SetsFirst, WriteFields, has_room, planned_page, IsHolding, IsFound, PairFields, FitsFound, IsPlan, HasRead, IsThere, page_of, RecordChange, Descent}
-use Rattle.mlt_page.specs.Slots.{is_kept}
-use Rattle.mlt_hash_form.specs.Changes.{ChangesRecord, IsHome, slot_change}
+use Rattle.mlt_hash_form.{specs.Changes.ChangesRecord, specs.Changes.IsHome, specs.Changes.slot_change, specs.Held.over, proofs.SingleChanges.put_changes, proofs.SingleChanges.revive_changes, proofs.SingleChanges.set_value_changes, proofs.SingleChanges.to_ghost_changes}
 use Rattle.mlt_hash_form.specs.File.{GivesPseudokeys, Writes, bucket_of, buckets_of, lead_of}
-use Rattle.mlt_hash_form.specs.Held.{over}
-use Rattle.mlt_hash_form.proofs.SingleChanges.{put_changes, revive_changes, set_value_changes, to_ghost_changes}
 use Rattle.mlt_hash_access.proofs.Views.{writes_over_clean}
-use Rattle.mlt_hash_pair.specs.Changes.{MakesChange, WritesBucketsAlone}
-use Rattle.mlt_hash_pair.specs.Plans.{slot_after, value_after}
+use Rattle.mlt_hash_pair.specs.{Changes.MakesChange, Changes.WritesBucketsAlone, Plans.slot_after, Plans.value_after}
 
 -- a page that is held and not written is over clean pages what it was seen as
 as_seen : (view : View) (clean : ℕ → Option Page) (q : ℕ) (first : Option Page) → Agrees view.seen clean → view.seen q ≡ Some first → view.own q ≡ None → over clean view.own q ≡ first

@@ -1,12 +1,8 @@
 -- What the slots of a bucket have of a key, and what a change for another key leaves of it
 use Rattle.std.proofs.Common.{◌≡◌, ◌≢◌, ℕ, ◌<◌, Bool, false, true, List, length, ltb, Option, None, Some, refl, sym, ap, subst, ◌∙◌, inl, inr, arith, slice_index_or, slice_set, IsSome, position, option_map, nat_cmp, eqb-true, lt-ltb, ne_eqb, get_or-set_other, get_or-set_same}
-use Rattle.std.specs.List.{position_or_len}
+use Rattle.std.{specs.List.position_or_len, proofs.lemmas.Bool.cases_lt, proofs.lemmas.List.get_or_past, proofs.lemmas.List.set_past, proofs.lemmas.List.Sums.fails_before_first, proofs.lemmas.List.Quantifiers.position-Some}
 use Rattle.std.specs.FinSet as set
 use Rattle.mlt_hash_pair.proofs.Names.{cases_eq, cond-true, false≢true, none-some, is_ghost_of, is_live_of, Slot, Free, Ghost, Live, BucketFields, value_in, SetsFirst, WriteFields, has_room, FitsFound, FitsSlots, IsPlan, RecordChange}
-use Rattle.std.proofs.lemmas.Bool.{cases_lt}
-use Rattle.std.proofs.lemmas.List.{get_or_past, set_past}
-use Rattle.std.proofs.lemmas.List.Sums.{fails_before_first}
-use Rattle.std.proofs.lemmas.List.Quantifiers.{position-Some}
 use Rattle.mlt_hash_form.specs.Form.{slot_value}
 use Rattle.mlt_hash_pair.specs.Plans.{IsAbsent, IsPresent}
 

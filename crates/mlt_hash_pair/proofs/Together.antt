@@ -2,10 +2,8 @@
 use Rattle.std.proofs.Common.{◌≡◌, ◌≢◌, ◌⊎◌, ℕ, ◌<◌, ◌≤◌, ◌+◌, false, true, List, Option, slice_index, refl, sym, ap, subst, ◌∙◌, inl, inr, arith, ◌==◌, nat_le, nat_lt, eq-eqb, le-ltb, leb-false, leb-true, lt-ltb, ne_eqb}
 use Rattle.mlt_hash_pair.proofs.Names.{cases_eq, cond-false, cond-true, BucketFields, HeadFields, Page, GoTogether, later_of, most_steps, value_in, next_page, next_descent, descent_after, told_by, IsThere, page_of, pages_to_read, PairAnswer, Descent}
 use Rattle.std.proofs.lemmas.Bool.{cases_Bool}
-use Rattle.mlt_hash_pair.specs.Pairs.{least_steps, steps_for}
+use Rattle.mlt_hash_pair.{specs.Pairs.least_steps, specs.Pairs.steps_for, specs.Reading.is_before, specs.Reading.descent_by_header, proofs.Nexts.KindIs, proofs.Nexts.after_next, proofs.Nexts.after_other, proofs.Nexts.done_stays}
 use Rattle.mlt_hash_form.specs.File.{dir_of}
-use Rattle.mlt_hash_pair.specs.Reading.{is_before, descent_by_header}
-use Rattle.mlt_hash_pair.proofs.Nexts.{KindIs, after_next, after_other, done_stays}
 
 -- the descent whose page is read is one of the two
 pub which : (left right : Descent) → ((next_descent left right ≡ left) × (is_before left right ≡ true)) ⊎ ((next_descent left right ≡ right) × (is_before left right ≡ false))

@@ -3,20 +3,12 @@ use Rattle.std.specs.Prelude.{ℕ, ◌≡◌, ◌≢◌, ◌<◌, ◌≤◌, ◌
 use Rattle.std.specs.Ordering.{nat_cmp}
 use Rattle.std.specs.FinMap as map
 use Rattle.std.specs.FinSet as set
-use Rattle.mlt_page.specs.declared.page.Page.{Page}
-use Rattle.mlt_page.specs.Values.{BucketFields}
+use Rattle.mlt_page.specs.{declared.page.Page.Page, Values.BucketFields}
 use Rattle.mlt_hash_form.specs.File.{FilePages, GivesPseudokeys, HasForm, lead_of, look_up}
-use Rattle.mlt_hash_form.specs.Held.{Agrees, AreKeptToo, over}
+use Rattle.mlt_hash_form.specs.{Held.Agrees, Held.AreKeptToo, Held.over, Plans.WriteFields, Plans.planned_page}
 use Rattle.mlt_hash_access.specs.LocalStates.{LocalState}
 use Rattle.mlt_hash_access.specs.Views.{IsSameView, ReadsHeldBucket, View, WritesPage, view_of}
-use Rattle.mlt_hash_form.specs.Plans.{WriteFields, planned_page}
-use Rattle.mlt_hash_pair.specs.Pairs.{HoldsDescents, IsFound, PairFields, later_page}
-use Rattle.mlt_hash_pair.specs.Plans.{FitsFound, HasNoPlan, IsPlan}
-use Rattle.mlt_hash_pair.specs.Descents.{HasRead, found_of, page_of}
-use Rattle.mlt_hash_pair.specs.declared.asked.PairChanges.{PairChanges}
-use Rattle.mlt_hash_pair.specs.declared.asked.RecordChange.{RecordChange}
-use Rattle.mlt_hash_pair.specs.declared.answer.ChangeAnswer.{ChangeAnswer}
-use Rattle.mlt_hash_pair.specs.declared.answer.Side.{Side}
+use Rattle.mlt_hash_pair.specs.{Pairs.HoldsDescents, Pairs.IsFound, Pairs.PairFields, Pairs.later_page, Plans.FitsFound, Plans.HasNoPlan, Plans.IsPlan, Descents.HasRead, Descents.found_of, Descents.page_of, declared.asked.PairChanges.PairChanges, declared.asked.RecordChange.RecordChange, declared.answer.ChangeAnswer.ChangeAnswer, declared.answer.Side.Side}
 
 -- what is asked fits what was found of both keys
 abbrev pub FitsBoth : PairChanges → PairFields → Type 0

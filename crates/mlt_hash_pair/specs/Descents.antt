@@ -1,13 +1,10 @@
 -- Where the descent of one key stands: what it has read, and which pages it holds. Each fact is about these pages alone, so that
 -- what other transactions do can't touch it.
 use Rattle.std.specs.Prelude.{ℕ, ◌≡◌, ◌⊎◌, Option, None, Some}
-use Rattle.mlt_types.specs.declared.mode.Mode.{Mode}
-use Rattle.mlt_types.specs.declared.mode.Mode.TheVariants.{Exclusive, Shared}
-use Rattle.mlt_page.specs.declared.page.Page.{Page}
-use Rattle.mlt_page.specs.Values.{HeadFields}
+use Rattle.mlt_types.specs.declared.mode.Mode.{Mode, TheVariants.Exclusive, TheVariants.Shared}
+use Rattle.mlt_page.specs.{declared.page.Page.Page, Values.HeadFields}
 use Rattle.mlt_hash_form.specs.File.{dir_of, place_of, row_of}
-use Rattle.mlt_hash_access.specs.Reading.{HasReadBucket, HasReadPlace}
-use Rattle.mlt_hash_access.specs.Views.{View}
+use Rattle.mlt_hash_access.specs.{Reading.HasReadBucket, Reading.HasReadPlace, Views.View}
 use Rattle.mlt_hash_pair.specs.declared.descent.Descent.{Descent}
 
 -- the header is read

@@ -2,13 +2,9 @@
 use Rattle.std.specs.Prelude.{ℕ, ◌≡◌, ◌≢◌, ◌<◌, ◌≤◌, ◌+◌, ◌*◌, ◌⊎◌, ◌↔◌, ◌==◌, nat_lt, if◌then◌else◌, Option, None, Some}
 use Rattle.std.specs.FinMap as map
 use Rattle.mlt_types.specs.declared.mode.Mode.{Mode}
-use Rattle.mlt_hash_form.specs.File.{GivesPseudokeys}
-use Rattle.mlt_hash_access.specs.LocalStates.{HasCleanFile, MayStep, LocalState}
-use Rattle.mlt_hash_access.specs.Views.{IsUnwritten, View, view_of}
-use Rattle.mlt_hash_form.specs.Plans.{WriteFields}
-use Rattle.mlt_hash_pair.specs.Reading.{next_mode, next_page, next_descent}
-use Rattle.mlt_hash_pair.specs.Descents.{HasRead, IsLocked, IsThere, page_of}
-use Rattle.mlt_hash_pair.specs.declared.descent.Descent.{Descent}
+use Rattle.mlt_hash_form.specs.{File.GivesPseudokeys, Plans.WriteFields}
+use Rattle.mlt_hash_access.specs.{LocalStates.HasCleanFile, LocalStates.MayStep, LocalStates.LocalState, Views.IsUnwritten, Views.View, Views.view_of}
+use Rattle.mlt_hash_pair.specs.{Reading.next_mode, Reading.next_page, Reading.next_descent, Descents.HasRead, Descents.IsLocked, Descents.IsThere, Descents.page_of, declared.descent.Descent.Descent}
 
 -- what a pair reads by: the function of keys, and the header's page
 pub record FileRoot : Type 0 where

@@ -2,13 +2,9 @@
 use Rattle.std.specs.Prelude.{ℕ, ◌≡◌, ◌<◌, ◌⊎◌, IsSome, true, false, List, slice_index_or, Option, None, Some}
 use Rattle.std.specs.Ordering.{nat_cmp}
 use Rattle.std.specs.FinSet as set
-use Rattle.mlt_page.specs.Slots.{is_ghost_of, is_live_of}
-use Rattle.mlt_page.specs.declared.slot.Slot.{Slot}
-use Rattle.mlt_page.specs.declared.slot.Slot.TheVariants.{Free, Ghost, Live}
-use Rattle.mlt_page.specs.Values.{BucketFields, with_slot}
+use Rattle.mlt_page.specs.{Slots.is_ghost_of, Slots.is_live_of, declared.slot.Slot.Slot, declared.slot.Slot.TheVariants.Free, declared.slot.Slot.TheVariants.Ghost, declared.slot.Slot.TheVariants.Live, Values.BucketFields, Values.with_slot}
 use Rattle.mlt_hash_form.specs.Plans.{IsNowhere, SetsFirst, WriteFields, has_room}
-use Rattle.mlt_hash_pair.specs.declared.asked.RecordChange.{RecordChange}
-use Rattle.mlt_hash_pair.specs.declared.plan.SlotPlan.{SlotPlan}
+use Rattle.mlt_hash_pair.specs.declared.{asked.RecordChange.RecordChange, plan.SlotPlan.SlotPlan}
 
 -- a change fits what was found of its key: an insertion asks that there is no record, and another change that there is one
 abbrev pub FitsFound : Option RecordChange → Option ℕ → Type 0

@@ -1,11 +1,8 @@
 -- What a descent reads: its next page, the mode of that page, and where it is once the page is read
 use Rattle.std.specs.Prelude.{ℕ, ◌==◌, nat_le, Bool, true, false, if◌then◌else◌, slice_index}
-use Rattle.mlt_types.specs.declared.mode.Mode.{Mode}
-use Rattle.mlt_types.specs.declared.mode.Mode.TheVariants.{Exclusive, Shared}
-use Rattle.mlt_page.specs.declared.page.Page.{Page}
-use Rattle.mlt_page.specs.Values.{HeadFields}
-use Rattle.mlt_hash_form.specs.File.{dir_of, place_of, row_of}
-use Rattle.mlt_hash_form.specs.Form.{value_in}
+use Rattle.mlt_types.specs.declared.mode.Mode.{Mode, TheVariants.Exclusive, TheVariants.Shared}
+use Rattle.mlt_page.specs.{declared.page.Page.Page, Values.HeadFields}
+use Rattle.mlt_hash_form.specs.{File.dir_of, File.place_of, File.row_of, Form.value_in}
 use Rattle.mlt_hash_pair.specs.declared.descent.Descent.{Descent}
 
 -- the page that a descent reads next, and its mode; at its bucket it is done

@@ -1,13 +1,9 @@
 -- What the steps of a pair to its buckets tell
 use Rattle.std.specs.Prelude.{ℕ, ◌≡◌, ◌≤◌, ◌+◌, Option}
 use Rattle.mlt_page_locks.specs.Requests.{IsLowest, conflicts}
-use Rattle.mlt_hash_access.specs.LocalStates.{LocalState}
-use Rattle.mlt_hash_access.specs.PageSteps.{LocksPage}
-use Rattle.mlt_hash_access.specs.Views.{view_of}
+use Rattle.mlt_hash_access.specs.{LocalStates.LocalState, PageSteps.LocksPage, Views.view_of}
 use Rattle.mlt_hash_pair.specs.Pairs.{IsFinding, IsUnderWay, PairFields, later_page, least_steps, mode_next, most_steps, page_next}
-use Rattle.mlt_hash_pair.specs.Descents.{IsNext, pages_to_read}
-use Rattle.mlt_hash_pair.specs.declared.descent.Descent.{Descent}
-use Rattle.mlt_hash_pair.specs.declared.answer.PairAnswer.{PairAnswer}
+use Rattle.mlt_hash_pair.specs.{Descents.IsNext, Descents.pages_to_read, declared.descent.Descent.Descent, declared.answer.PairAnswer.PairAnswer}
 
 -- where page q was read: a descent of which it was the next one has read it, and another is as it was
 pub record ReadsOn (root q : ℕ) (before after : Descent) : Type 0 where

@@ -4,16 +4,8 @@ use Rattle.std.specs.Ordering.{nat_cmp}
 use Rattle.std.specs.FinSet as set
 use Rattle.mlt_page.specs.Values.{BucketFields}
 use Rattle.mlt_page_locks.specs.LockTables.{can_write}
-use Rattle.mlt_hash_access.specs.LocalStates.{LocalState}
-use Rattle.mlt_hash_access.specs.PageSteps.{WritesHeldSlot}
-use Rattle.mlt_hash_access.specs.Views.{ReadsHeldBucket, View, WritesSlot, view_of}
-use Rattle.mlt_hash_pair.specs.Changes.{IsFull, MakesAsked, Task}
-use Rattle.mlt_hash_pair.specs.Pairs.{PairFields}
-use Rattle.mlt_hash_pair.specs.Plans.{FitsSlots, IsPlanned}
-use Rattle.mlt_hash_pair.specs.declared.asked.RecordChange.{RecordChange}
-use Rattle.mlt_hash_pair.specs.declared.answer.ChangeAnswer.{ChangeAnswer}
-use Rattle.mlt_hash_pair.specs.declared.answer.Side.{Side}
-use Rattle.mlt_hash_pair.specs.declared.plan.SlotPlan.{SlotPlan}
+use Rattle.mlt_hash_access.specs.{LocalStates.LocalState, PageSteps.WritesHeldSlot, Views.ReadsHeldBucket, Views.View, Views.WritesSlot, Views.view_of}
+use Rattle.mlt_hash_pair.specs.{Changes.IsFull, Changes.MakesAsked, Changes.Task, Pairs.PairFields, Plans.FitsSlots, Plans.IsPlanned, declared.asked.RecordChange.RecordChange, declared.answer.ChangeAnswer.ChangeAnswer, declared.answer.Side.Side, declared.plan.SlotPlan.SlotPlan}
 
 -- page q reads as a bucket that what is asked fits
 abbrev pub MayPlan : Option RecordChange → ℕ → ℕ → View → Type 0

@@ -2,14 +2,10 @@
 use Rattle.std.proofs.Common.{ℕ, ◌≡◌, ◌<◌, ◌≤◌, ◌+◌, ◌-◌, ◌^◌, is_some, List, Option, Some, refl, sym, ◌∙◌, ap, subst, arith}
 use Rattle.std.specs.FinMap as map
 use Rattle.mlt_hash_split.proofs.Names.{Exclusive, BucketFields, HeadFields, Page, page_at, HasForm, Writes, bucket_of, buckets_of, depth_of, header_of, lead_of, half_of, Agrees, over, own_or_clean, keeps_more, MakesPage, View, view_over, LocalState, SplitTarget, HoldsAmong, IsAtRest, held_page, most_held, seed_of, Begins, IsAtOldBucket, IsUnderWay, SplitFields, SplitPhase, page_count, made_is_not_clean, makes_over}
-use Rattle.mlt_page.specs.Stores.{PageStore, Pages}
-use Rattle.mlt_page.proofs.Numbered.{page_inserted}
-use Rattle.mlt_hash_access.specs.PageSteps.{MakesLockedPage}
-use Rattle.mlt_hash_split.specs.Splits.{HasHalves, MayBegin}
-use Rattle.mlt_hash_split.proofs.Among.{among_after_make, count_is_few, most_is_small}
-use Rattle.mlt_hash_split.proofs.Closing.{HasClean, held_page_over}
+use Rattle.mlt_page.{specs.Stores.PageStore, specs.Stores.Pages, proofs.Numbered.page_inserted}
+use Rattle.mlt_hash_access.{specs.PageSteps.MakesLockedPage, proofs.Views.agrees_before_make}
+use Rattle.mlt_hash_split.{specs.Splits.HasHalves, specs.Splits.MayBegin, proofs.Among.among_after_make, proofs.Among.count_is_few, proofs.Among.most_is_small, proofs.Closing.HasClean, proofs.Closing.held_page_over}
 use Rattle.mlt_hash_split.proofs.HeldPages.{exclusive_after_make, grows_by_make, mode_after_make, reads_after_make, same_bucket, same_header, seen_after_make}
-use Rattle.mlt_hash_access.proofs.Views.{agrees_before_make}
 
 module _ (target : SplitTarget) (view : View) (n : ℕ) (header : HeadFields) (bucket : BucketFields) (rest : IsAtRest target view n header bucket) where
   -- over any clean pages that agree the walk's file at rest has its header and its bucket

@@ -3,20 +3,9 @@ use Rattle.std.proofs.Common.{ℕ, ◌≡◌, ◌<◌, ◌≤◌, ◌+◌, ◌-�
 use Rattle.std.specs.FinMap as finmap
 use Rattle.std.specs.FinSet as set
 use Rattle.mlt_hash_split.proofs.Names.{both_ways, cond-true, cond-false, Exclusive, bit_at, first_bits, half, is_kept, Free, BucketFields, HeadFields, Page, half_of, HasForm, Writes, bucket_of, buckets_of, depth_of, dirs_of, entry, header_of, lead_of, Agrees, KeepsFile, over, own_or_clean, IsMidway, run_length, run_start, target_of, bucket_split, first_bits-first_bits, View, SplitTarget, HoldsAmong, IsAtRest, held_page, most_held, seed_of, Begins, SplitFields}
-use Rattle.std.proofs.lemmas.Bool.{cases_Bool}
-use Rattle.std.proofs.Math.ListN.{get_or-map}
-use Rattle.mlt_page.specs.Slots.{is_ghost_of, is_live_of}
-use Rattle.mlt_page.specs.declared.slot.Slot.{Slot}
-use Rattle.mlt_hash_form.specs.File.{entries_of}
-use Rattle.mlt_hash_form.specs.Changes.{IsSplit, MaySplit}
-use Rattle.mlt_hash_form.specs.Room.{is_crowded}
-use Rattle.mlt_hash_form.proofs.Bits.{first_bits_below, first_bits_next, side_cases}
-use Rattle.mlt_hash_form.proofs.Crowd.{crowded_half}
-use Rattle.mlt_hash_form.proofs.FillEnds.{filled_reads, place_all}
-use Rattle.mlt_hash_form.proofs.HeldPages.{split_keeps}
-use Rattle.mlt_hash_form.proofs.Midway.{fill_beside}
-use Rattle.mlt_hash_form.proofs.Splitting.{half_cases}
-use Rattle.mlt_hash_form.proofs.SplitSteps.{closes_by_header, closes_in_place}
+use Rattle.std.proofs.{lemmas.Bool.cases_Bool, Math.ListN.get_or-map}
+use Rattle.mlt_page.specs.{Slots.is_ghost_of, Slots.is_live_of, declared.slot.Slot.Slot}
+use Rattle.mlt_hash_form.{specs.File.entries_of, specs.Changes.IsSplit, specs.Changes.MaySplit, specs.Room.is_crowded, proofs.Bits.first_bits_below, proofs.Bits.first_bits_next, proofs.Bits.side_cases, proofs.Crowd.crowded_half, proofs.FillEnds.filled_reads, proofs.FillEnds.place_all, proofs.HeldPages.split_keeps, proofs.Midway.fill_beside, proofs.Splitting.half_cases, proofs.SplitSteps.closes_by_header, proofs.SplitSteps.closes_in_place}
 
 -- the page of the half that the pseudokey x goes to, where the bucket of this depth is split
 abbrev pub half_page : ℕ → ℕ → ℕ → ℕ → ℕ

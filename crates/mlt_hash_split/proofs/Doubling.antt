@@ -2,14 +2,9 @@
 use Rattle.std.proofs.Common.{◌≡◌, ℕ, ◌+◌, ◌-◌, ◌*◌, ◌/◌, ◌%◌, ◌<◌, ◌≤◌, ◌^◌, true, cond, List, length, slice_index, slice_set, Option, Some, is_some, refl, sym, ap, subst, ◌∙◌, arith, lt-ltb, le-ltb}
 use Rattle.std.specs.FinMap as map
 use Rattle.mlt_hash_split.proofs.Names.{Exclusive, first_bits, Page, HeadFields, Modes, page_at, HasForm, buckets_of, bucket_of, depth_of, dirs_of, entry, header_of, Agrees, over, IsDoubled, IsMidway, target_of, bucket_split, page_as_it_was, pages_when_doubled, rewrites_a_page, set_is_longer, MayStep, LocalState, ReadsPage, View, WritesPage, view_over, view_of, SplitTarget, HoldsAmong, IsIn, held_page, most_held, seed_of, Begins, HoldsAmongAt, IsUnderWay, SplitFields, StandsAt, steps_left_at, GoesOn, SplitPhase, agrees_through_write, reads_over}
-use Rattle.mlt_hash_form.specs.Splits.{prefix_of}
-use Rattle.mlt_hash_form.proofs.HeldPages.{writes_over}
-use Rattle.mlt_hash_form.proofs.PageContents.{doubled_right}
-use Rattle.mlt_hash_split.proofs.Closing.{HasClean}
-use Rattle.mlt_hash_split.specs.Splits.{IsAtDouble}
-use Rattle.mlt_hash_split.proofs.Among.{locked_is_among}
+use Rattle.mlt_hash_form.{specs.Splits.prefix_of, proofs.HeldPages.writes_over, proofs.PageContents.doubled_right}
+use Rattle.mlt_hash_split.{proofs.Closing.HasClean, specs.Splits.IsAtDouble, proofs.Among.locked_is_among, proofs.SecondHalf.among_all_made, proofs.SecondHalf.named_among}
 use Rattle.mlt_hash_split.proofs.Later.{IsLater, Rewrites, rewrites, agreed_before, begins_now, half_pages, held_over, later_by_rewrite, stands_now, stays_under_way}
-use Rattle.mlt_hash_split.proofs.SecondHalf.{among_all_made, named_among}
 
 -- the pages that are held once the next page of the old directory is locked, and named as the next one of the new
 pub among_by_rewrite : (view view' : View) (dirs made : List ℕ) (k count j most q : ℕ) (page : Page) → j < length made → k < count → slice_index dirs k ≡ q → HoldsAmong view dirs made k count j most → Rewrites view view' q page → HoldsAmong view' dirs (slice_set made j q) (k + 1) count (j + 1) most

@@ -3,11 +3,7 @@ use Rattle.std.proofs.Common.{ℕ, ◌<◌, ◌≤◌, ◌+◌, ◌-◌, ◌^◌
 use Rattle.std.specs.FinMap as map
 use Rattle.std.specs.FinSet as set
 use Rattle.mlt_hash_split.proofs.Names.{BucketFields, HeadFields, Page, over, View, SplitTarget, IsAtRest, most_held, HoldsAmongAt, IsUnderWay, SplitFields, StandsAt, SplitPhase}
-use Rattle.mlt_hash_split.proofs.Among.{few_are_held, most_is_small}
-use Rattle.mlt_hash_split.proofs.Beginning.{rest_is_shallow, rest_is_small}
-use Rattle.mlt_hash_split.proofs.Closing.{HasClean}
-use Rattle.mlt_hash_split.proofs.Later.{half_pages}
-use Rattle.mlt_hash_split.proofs.OldBucket.{depths_are_small}
+use Rattle.mlt_hash_split.proofs.{Among.few_are_held, Among.most_is_small, Beginning.rest_is_shallow, Beginning.rest_is_small, Closing.HasClean, Later.half_pages, OldBucket.depths_are_small}
 
 -- **A walk at rest holds fewer than 300 pages,**
 pub rest_holds_few : (target : SplitTarget) (view : View) (n : ℕ) (header : HeadFields) (bucket : BucketFields) → HasClean target view → IsAtRest target view n header bucket → map.len view.modes < 300

@@ -2,11 +2,8 @@
 use Rattle.std.proofs.Common.{ℕ, ◌≡◌, true, is_some, unwrap_or, Option, Some, None, refl, sym, ◌∙◌, ap, subst}
 use Rattle.std.specs.FinMap as map
 use Rattle.mlt_hash_split.proofs.Names.{both_ways, Exclusive, BucketFields, HeadFields, Page, page_at, FilePages, Agrees, over, own_or_clean, MayStep, LocalState, MakesPage, View, view_of, view_over, reads_over_writes, SplitTarget, held_page, mode_of_others}
-use Rattle.mlt_hash_access.specs.LocalStates.{HasFileOver, IsCleanFor}
-use Rattle.mlt_hash_access.specs.Views.{HasWritten, ReadsHeldPage}
-use Rattle.mlt_hash_access.proofs.Since.{agrees_over, reads_below_writes, there_since}
-use Rattle.mlt_hash_split.proofs.Closing.{HasClean}
-use Rattle.mlt_hash_split.proofs.Later.{exclusive_here}
+use Rattle.mlt_hash_access.{specs.LocalStates.HasFileOver, specs.LocalStates.IsCleanFor, specs.Views.HasWritten, specs.Views.ReadsHeldPage, proofs.Since.agrees_over, proofs.Since.reads_below_writes, proofs.Since.there_since}
+use Rattle.mlt_hash_split.proofs.{Closing.HasClean, Later.exclusive_here}
 
 -- a hash file as it is clean now
 pub clean_now : (target : SplitTarget) (m : LocalState) → MayStep m → HasFileOver target.bits target.root target.before m → HasClean target (view_over target.before m)

@@ -2,12 +2,10 @@
 use Rattle.std.proofs.Common.{ℕ, ◌≡◌, ◌<◌, ◌≤◌, ◌+◌, ◌-◌, ◌*◌, ◌^◌, is_some, true, List, length, slice_index, Option, Some, refl, sym, ◌∙◌, ap, subst, arith, ◌⊎◌, nat_cmp}
 use Rattle.std.specs.FinSet as set
 use Rattle.mlt_hash_split.proofs.Names.{Exclusive, first_bits, BucketFields, HeadFields, Page, page_at, HasForm, Writes, bucket_of, buckets_of, depth_of, dirs_of, entry, header_of, Agrees, over, own_or_clean, half_of, bit_at, IsMidway, run_length, run_start, target_of, bucket_split, keeps_more, page_as_it_was, rewrites_a_page, MayStep, LocalState, ReadsPage, View, WritesPage, view_over, view_of, seen_over_held, SplitTarget, HoldsAmong, IsAtRest, IsIn, held_page, most_held, seed_of, Begins, HoldsAmongAt, IsInPlace, IsUnderWay, SplitFields, StandsAt, steps_left, steps_left_at, GoesOn, Rests, SplitPhase, reads_over}
-use Rattle.mlt_hash_form.specs.Splits.{HasNewPlaces}
-use Rattle.mlt_hash_form.proofs.PageContents.{placed_right}
-use Rattle.mlt_hash_split.proofs.Among.{among_after_lock, few_pages}
+use Rattle.mlt_hash_form.{specs.Splits.HasNewPlaces, proofs.PageContents.placed_right}
+use Rattle.mlt_hash_split.proofs.{Among.among_after_lock, Among.few_pages, OldBucket.depths_are_small}
 use Rattle.mlt_hash_split.proofs.Closing.{HasClean, HasClosed, IsClosed, closed_in_place, closes, half_page, held_page_over}
 use Rattle.mlt_hash_split.proofs.Later.{IsLater, Rewrites, agreed_before, begins_now, held_still, later_by_rewrite, rewrites, same_head, stands_now, stays_under_way}
-use Rattle.mlt_hash_split.proofs.OldBucket.{depths_are_small}
 
 -- the places that the new bucket gets, in the words of the split
 pub record AreNewPlaces (split : SplitFields) (first count : ℕ) : Type 0 where

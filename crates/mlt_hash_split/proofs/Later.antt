@@ -2,8 +2,7 @@
 use Rattle.std.proofs.Common.{◌≡◌, ℕ, ◌-◌, ◌<◌, ◌≤◌, ◌^◌, true, List, Option, None, Some, is_some, unwrap_or, refl, sym, ap, subst, ◌∙◌, inl, inr, arith, ◌⊎◌, ◌↔◌, Result, Err}
 use Rattle.std.specs.FinMap as map
 use Rattle.mlt_hash_split.proofs.Names.{Exclusive, Page, HeadFields, Modes, can_write, with_page, stronger_exclusive, HasForm, Agrees, over, own_or_clean, keeps_more, seen_as, MayStep, LocalState, MakesPage, ReadsPage, View, WritesPage, view_of, view_over, SplitTarget, held_page, Begins, HoldsAmongAt, IsUnderWay, SplitFields, StandsAt, IsMaking, SplitPhase, SplitAnswer, pow-le-pow_right, may_write}
-use Rattle.mlt_hash_split.proofs.Closing.{HasClean}
-use Rattle.mlt_hash_split.specs.Tells.{Tells}
+use Rattle.mlt_hash_split.{proofs.Closing.HasClean, specs.Tells.Tells}
 use Rattle.mlt_types.specs.declared.refusal.Refusal.{Refusal}
 use Rattle.mlt_hash_access.proofs.Views.{exclusive_stays, mode_of_page}
 

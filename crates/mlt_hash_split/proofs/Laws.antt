@@ -2,12 +2,8 @@
 use Rattle.std.proofs.Common.{ℕ, ◌≡◌, true, is_some, Option, sym, ◌∙◌, ap, subst, inl, inr, slice_index_or, nat_cmp}
 use Rattle.std.specs.FinSet as set
 use Rattle.mlt_hash_split.proofs.Names.{is_kept, Free, BucketFields, HeadFields, Page, HasForm, bucket_of, buckets_of, Agrees, KeepsFile, over, seen_as, View, SplitTarget, IsAtRest, seed_of, IsUnderWay, SplitFields, StandsAt, SplitPhase}
-use Rattle.mlt_hash_form.specs.Form.{slot_at}
-use Rattle.mlt_hash_form.proofs.Crowd.{crowded_with_fewer}
-use Rattle.mlt_hash_form.proofs.HeldPages.{keeps_fewer}
-use Rattle.mlt_hash_form.proofs.Splitting.{used_from_kept}
-use Rattle.mlt_hash_split.specs.Rests.{KeepsNoMore}
-use Rattle.mlt_hash_split.proofs.Closing.{held_page_over, not_true}
+use Rattle.mlt_hash_form.{specs.Form.slot_at, proofs.Crowd.crowded_with_fewer, proofs.HeldPages.keeps_fewer, proofs.Splitting.used_from_kept}
+use Rattle.mlt_hash_split.{specs.Rests.KeepsNoMore, proofs.Closing.held_page_over, proofs.Closing.not_true}
 
 -- the slots of a held page of the walk's file were on held clean pages, so no more of them are kept than were
 kept_before : (bits : ℕ → ℕ) (active fewer : set.FinSet nat_cmp) (root : ℕ) (view : View) (own clean : ℕ → Option Page) → KeepsFile bits active root view.seen own → KeepsNoMore active fewer view → Agrees view.seen clean → HasForm bits clean root

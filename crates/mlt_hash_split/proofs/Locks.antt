@@ -1,9 +1,7 @@
 -- What a step of a split leaves locked
 use Rattle.std.proofs.Common.{ℕ, ◌≡◌, ◌⊎◌, true, is_some, None, Some, sym, ◌∙◌, ap, subst, inl, inr, arith}
 use Rattle.mlt_hash_split.proofs.Names.{cases_eq, nat_tests, Exclusive, page_at, stronger_exclusive, MayStep, LocalState, view_of, view_over, write_writes, SplitTarget, SplitFields, IsDone, IsLeft, IsMaking, IsNextPage, SplitPhase, SplitAnswer}
-use Rattle.mlt_page_locks.proofs.LockLaws.{mode_held-granted}
-use Rattle.mlt_page_locks.specs.LockTables.{LockTable, mode_held}
-use Rattle.mlt_page_locks.specs.Requests.{granted, stronger}
+use Rattle.mlt_page_locks.{proofs.LockLaws.mode_held-granted, specs.LockTables.LockTable, specs.LockTables.mode_held, specs.Requests.granted, specs.Requests.stronger}
 use Rattle.mlt_hash_access.proofs.Views.{make_makes}
 use Rattle.mlt_hash_split.specs.Steps.{Touches}
 

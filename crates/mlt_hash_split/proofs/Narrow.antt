@@ -3,10 +3,7 @@ use Rattle.std.proofs.Common.{ℕ, zero, suc, ◌≡◌, ◌<◌, ◌≤◌, ◌
 use Rattle.std.specs.FinSet as set
 use Rattle.mlt_hash_split.proofs.Names.{first_bits, Exclusive, BucketFields, HeadFields, Page, HasForm, Agrees, over, first_bits-first_bits, MayStep, LocalState, LocksPage, WritesHeldPage, View, view_over, write_writes, SplitTarget, held_page, Begins, HaveNewPlaces, IsInPlace, IsUnderWay, SplitFields, StandsAt, IsDone, IsMaking, IsNextPage, SplitPhase}
 use Rattle.mlt_hash_access.proofs.OwnSteps.{lock_reads_some}
-use Rattle.mlt_hash_split.specs.Steps.{IsDirectoryPage, IsKeysPage}
-use Rattle.mlt_hash_split.proofs.OldBucket.{depths_are_small, header_is_elsewhere}
-use Rattle.mlt_hash_split.proofs.Closing.{held_page_over}
-use Rattle.mlt_hash_split.proofs.InPlace.{same_depth}
+use Rattle.mlt_hash_split.{specs.Steps.IsDirectoryPage, specs.Steps.IsKeysPage, proofs.OldBucket.depths_are_small, proofs.OldBucket.header_is_elsewhere, proofs.Closing.held_page_over, proofs.InPlace.same_depth}
 
 -- what holds of 0 to 7
 up_to_seven : (P : ℕ → Type 0) → P 0 → P 1 → P 2 → P 3 → P 4 → P 5 → P 6 → P 7 → (k : ℕ) → k ≤ 7 → P k

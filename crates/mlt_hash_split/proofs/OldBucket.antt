@@ -3,12 +3,8 @@ use Rattle.std.proofs.Common.{ℕ, ◌≡◌, ◌<◌, ◌≤◌, ◌+◌, ◌-�
 use Rattle.std.specs.FinMap as map
 use Rattle.std.specs.FinSet as set
 use Rattle.mlt_hash_split.proofs.Names.{cases_lt, cond-true, cond-false, pow-le-pow_right, first_bits, BucketFields, HeadFields, Page, Writes, bucket_of, buckets_of, depth_of, dirs_of, header_of, lead_of, half_of, over, IsMidway, bucket_split, IsFirstPhase, MayStep, LocalState, View, WritesPage, view_over, SplitTarget, HoldsAmong, most_held, seed_of, Begins, HaveNewPlaces, HoldsAmongAt, IsAtOldBucket, IsUnderWay, SplitFields, StandsAt, steps_left_at, GoesOn, SplitPhase, writes_over_clean}
-use Rattle.mlt_hash_form.proofs.FillEnds.{page_listed}
-use Rattle.mlt_hash_form.proofs.InPlace.{one_page, whole_pages}
-use Rattle.mlt_hash_form.proofs.SplitSteps.{begins_in_place, begins_to_double}
-use Rattle.mlt_hash_split.proofs.Closing.{HasClean}
-use Rattle.mlt_hash_split.proofs.Among.{among_still}
-use Rattle.mlt_hash_split.proofs.Later.{IsLater, agreed_before, begins_now, stays_under_way}
+use Rattle.mlt_hash_form.proofs.{FillEnds.page_listed, InPlace.one_page, InPlace.whole_pages, SplitSteps.begins_in_place, SplitSteps.begins_to_double}
+use Rattle.mlt_hash_split.proofs.{Closing.HasClean, Among.among_still, Later.IsLater, Later.agreed_before, Later.begins_now, Later.stays_under_way}
 
 -- the pages with the new bucket's places, on one page or on whole pages
 pub new_pages : (seed l g : ℕ) (first count pages : ℕ) → l < g → first ≡ (2 * first_bits l seed + 1) * 2 ^ (g - (l + 1)) → count ≡ 2 ^ (g - (l + 1)) → first + count ≤ 2 ^ g

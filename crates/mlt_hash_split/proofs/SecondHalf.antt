@@ -3,9 +3,7 @@ use Rattle.std.proofs.Common.{◌≡◌, ℕ, ◌+◌, ◌-◌, ◌*◌, ◌<◌
 use Rattle.std.specs.FinMap as map
 use Rattle.mlt_hash_split.proofs.Names.{cases_lt, Exclusive, Page, HeadFields, Modes, HasForm, Agrees, over, own_or_clean, IsMidway, bucket_split, pages_when_doubled, set_is_longer, MayStep, LocalState, MakesPage, View, view_over, SplitTarget, HoldsAmong, IsIn, most_held, seed_of, HoldsAmongAt, IsUnderWay, SplitFields, StandsAt, steps_left_at, GoesOn, SplitPhase, made_is_not_clean, makes_over}
 use Rattle.mlt_hash_form.proofs.SplitSteps.{makes_a_page}
-use Rattle.mlt_hash_split.proofs.Closing.{HasClean}
-use Rattle.mlt_hash_split.specs.Splits.{IsAtSecondHalf}
-use Rattle.mlt_hash_split.proofs.Among.{first_is_in, further_is_in, locked_is_among}
+use Rattle.mlt_hash_split.{proofs.Closing.HasClean, specs.Splits.IsAtSecondHalf, proofs.Among.first_is_in, proofs.Among.further_is_in, proofs.Among.locked_is_among}
 use Rattle.mlt_hash_split.proofs.Later.{IsLater, agreed_before, begins_now, half_pages, later_by_making, stands_now, stays_under_way}
 
 -- a page number at the end of those that are set

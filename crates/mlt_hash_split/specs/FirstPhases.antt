@@ -1,7 +1,6 @@
 -- Where a split begins to write the directory
 use Rattle.std.specs.Prelude.{◌≡◌, ◌<◌}
-use Rattle.mlt_hash_split.specs.declared.phase.SplitPhase.{SplitPhase}
-use Rattle.mlt_hash_split.specs.Splits.{HaveNewPlaces, SplitFields}
+use Rattle.mlt_hash_split.specs.{declared.phase.SplitPhase.SplitPhase, Splits.HaveNewPlaces, Splits.SplitFields}
 
 -- a directory that is as deep as the bucket doubles, from its first page on; another is written in place
 abbrev pub IsFirstPhase : SplitFields → SplitPhase → Type 0

@@ -1,17 +1,12 @@
 -- A walk's file at rest: between two splits
 use Rattle.std.specs.Prelude.{ℕ, ◌≡◌, ◌<◌, ◌≤◌, ◌+◌, ◌-◌, ◌^◌, ◌==◌, true, false, is_some, unwrap_or, List, length, slice_index, slice_index_or, Option, Some, None}
-use Rattle.std.specs.List.{list_any}
-use Rattle.std.specs.Ordering.{nat_cmp}
+use Rattle.std.specs.{List.list_any, Ordering.nat_cmp}
 use Rattle.std.specs.FinMap as map
 use Rattle.std.specs.FinSet as set
 use Rattle.mlt_types.specs.declared.mode.Mode.TheVariants.{Exclusive}
-use Rattle.mlt_page.specs.Slots.{is_ghost_of, is_live_of}
-use Rattle.mlt_page.specs.declared.slot.Slot.TheVariants.{Free}
-use Rattle.mlt_page.specs.Values.{BucketFields, HeadFields}
-use Rattle.mlt_page.specs.declared.page.Page.{Page}
-use Rattle.mlt_hash_form.specs.File.{FilePages, HasForm, bucket_of, lead_of}
+use Rattle.mlt_page.specs.{Slots.is_ghost_of, Slots.is_live_of, declared.slot.Slot.TheVariants.Free, Values.BucketFields, Values.HeadFields, declared.page.Page.Page}
+use Rattle.mlt_hash_form.specs.{File.FilePages, File.HasForm, File.bucket_of, File.lead_of, Room.is_crowded}
 use Rattle.mlt_hash_form.specs.Held.{Agrees, AreKeptToo, KeepsFile, over, own_or_clean}
-use Rattle.mlt_hash_form.specs.Room.{is_crowded}
 use Rattle.mlt_hash_access.specs.Views.{View}
 use Rattle.mlt_hash_split.specs.declared.environment.Environment.{Environment}
 

@@ -4,20 +4,10 @@ use Rattle.std.specs.Ordering.{nat_cmp}
 use Rattle.std.specs.FinMap as map
 use Rattle.std.specs.FinSet as set
 use Rattle.mlt_types.specs.declared.mode.Mode.TheVariants.{Exclusive}
-use Rattle.mlt_page.specs.Bits.{first_bits}
-use Rattle.mlt_page.specs.Slots.{is_ghost_of, is_live_of}
-use Rattle.mlt_page.specs.declared.slot.Slot.TheVariants.{Free}
-use Rattle.mlt_page.specs.Values.{BucketFields, HeadFields}
-use Rattle.mlt_page.specs.declared.page.Page.{Page}
-use Rattle.mlt_page.specs.Stores.{Pages, page_at}
-use Rattle.mlt_hash_form.specs.Form.{half_of}
-use Rattle.mlt_hash_form.specs.File.{HasForm, Writes, depth_of, dirs_of}
-use Rattle.mlt_hash_form.specs.Changes.{MaySplit}
-use Rattle.mlt_hash_form.specs.Held.{Agrees, AreKeptToo, KeepsFile, over}
-use Rattle.mlt_hash_form.specs.Room.{is_crowded}
+use Rattle.mlt_page.specs.{Bits.first_bits, Slots.is_ghost_of, Slots.is_live_of, declared.slot.Slot.TheVariants.Free, Values.BucketFields, Values.HeadFields, declared.page.Page.Page, Stores.Pages, Stores.page_at}
+use Rattle.mlt_hash_form.specs.{Form.half_of, File.HasForm, File.Writes, File.depth_of, File.dirs_of, Changes.MaySplit, Held.Agrees, Held.AreKeptToo, Held.KeepsFile, Held.over, Room.is_crowded}
 use Rattle.mlt_hash_form.specs.Splits.{BucketSplit, IsMidway, bucket_split, run_length, run_start, target_in}
-use Rattle.mlt_hash_access.specs.LocalStates.{HasFileOver, MayStep, LocalState}
-use Rattle.mlt_hash_access.specs.Views.{HasWritten, View, view_of, view_over}
+use Rattle.mlt_hash_access.specs.{LocalStates.HasFileOver, LocalStates.MayStep, LocalStates.LocalState, Views.HasWritten, Views.View, Views.view_of, Views.view_over}
 use Rattle.mlt_hash_split.specs.Rests.{SplitTarget, IsAtRest, HoldsAmong, held_page, most_held, seed_of}
 use Rattle.mlt_hash_split.specs.declared.phase.SplitPhase.{SplitPhase}
 

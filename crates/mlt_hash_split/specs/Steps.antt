@@ -1,16 +1,9 @@
 -- Which page each step of a split locks, writes or makes
 use Rattle.std.specs.Prelude.{ℕ, ◌≡◌, ◌/◌, slice_index, Some}
 use Rattle.mlt_types.specs.declared.mode.Mode.TheVariants.{Exclusive}
-use Rattle.mlt_page.specs.Bits.{first_bits}
-use Rattle.mlt_page.specs.Values.{HeadFields}
-use Rattle.mlt_page.specs.declared.page.Page.{Page}
-use Rattle.mlt_hash_access.specs.LocalStates.{LocalState}
-use Rattle.mlt_hash_access.specs.PageSteps.{LocksPage, MakesLockedPage, WritesHeldPage}
-use Rattle.mlt_hash_access.specs.Views.{View, view_over}
-use Rattle.mlt_hash_split.specs.Rests.{SplitTarget, held_page, seed_of}
-use Rattle.mlt_hash_split.specs.Splits.{SplitFields}
-use Rattle.mlt_hash_split.specs.declared.phase.SplitPhase.{SplitPhase}
-use Rattle.mlt_hash_split.specs.declared.split.SplitAnswer.{SplitAnswer}
+use Rattle.mlt_page.specs.{Bits.first_bits, Values.HeadFields, declared.page.Page.Page}
+use Rattle.mlt_hash_access.specs.{LocalStates.LocalState, PageSteps.LocksPage, PageSteps.MakesLockedPage, PageSteps.WritesHeldPage, Views.View, Views.view_over}
+use Rattle.mlt_hash_split.specs.{Rests.SplitTarget, Rests.held_page, Rests.seed_of, Splits.SplitFields, declared.phase.SplitPhase.SplitPhase, declared.split.SplitAnswer.SplitAnswer}
 
 -- page n of the directory is the one at this place of the header, which the walk holds
 abbrev pub IsDirectoryPage : SplitTarget → View → ℕ → ℕ → Type 0

@@ -1,16 +1,11 @@
 -- What a step of a split tells
 use Rattle.std.specs.Prelude.{ℕ, ◌≡◌, ◌+◌}
 use Rattle.std.specs.FinMap as map
-use Rattle.mlt_types.specs.declared.mode.Mode.TheVariants.{Exclusive}
-use Rattle.mlt_types.specs.declared.refusal.Refusal.{Refusal}
+use Rattle.mlt_types.specs.declared.{mode.Mode.TheVariants.Exclusive, refusal.Refusal.Refusal}
 use Rattle.mlt_page.specs.Values.{BucketFields, HeadFields}
 use Rattle.mlt_page_locks.specs.Requests.{IsLowest, conflicts}
-use Rattle.mlt_hash_access.specs.LocalStates.{LocalState}
-use Rattle.mlt_hash_access.specs.Views.{view_over}
-use Rattle.mlt_hash_split.specs.declared.split.SplitAnswer.{SplitAnswer}
-use Rattle.mlt_hash_split.specs.Rests.{SplitTarget, IsAtRest}
-use Rattle.mlt_hash_split.specs.Splits.{IsUnderWay, SplitFields, steps_left}
-use Rattle.mlt_hash_split.specs.Steps.{IsMaking, IsNextPage}
+use Rattle.mlt_hash_access.specs.{LocalStates.LocalState, Views.view_over}
+use Rattle.mlt_hash_split.specs.{declared.split.SplitAnswer.SplitAnswer, Rests.SplitTarget, Rests.IsAtRest, Splits.IsUnderWay, Splits.SplitFields, Splits.steps_left, Steps.IsMaking, Steps.IsNextPage}
 
 -- the walk's file is at rest again, with a bucket one deeper, and a directory one deeper where it was doubled
 pub record Rests (target : SplitTarget) (new : LocalState) (split : SplitFields) (n : ℕ) : Type 0 where

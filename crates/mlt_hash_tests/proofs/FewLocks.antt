@@ -1,14 +1,9 @@
 -- Few requests leave few locks.
 use Rattle.std.proofs.Common.{◌≡◌, ℕ, ◌+◌, sym, ap, subst, arith, nat_cmp}
-use Rattle.std.specs.Cmp.{nat_cmp_total}
+use Rattle.std.{specs.Cmp.nat_cmp_total, proofs.lemmas.Bool.Decides.nat_tests}
 use Rattle.std.specs.FinMap as map
-use Rattle.std.proofs.lemmas.Bool.Decides.{nat_tests}
 use Rattle.mlt_types.specs.declared.mode.Mode.{Mode}
-use Rattle.mlt_page_locks.proofs.LockLaws.{few_granted, pages_of-released}
-use Rattle.mlt_page_locks.specs.LockTables.{LockTable, HasAtMost}
-use Rattle.mlt_page_locks.specs.Requests.{Answers, released}
-use Rattle.mlt_page_locks.specs.declared.page_locks.Grant.{Grant}
-use Rattle.mlt_page_locks.specs.declared.page_locks.Grant.TheVariants.{Held, Waiting}
+use Rattle.mlt_page_locks.{proofs.LockLaws.few_granted, proofs.LockLaws.pages_of-released, specs.LockTables.LockTable, specs.LockTables.HasAtMost, specs.Requests.Answers, specs.Requests.released, specs.declared.page_locks.Grant.Grant, specs.declared.page_locks.Grant.TheVariants.Held, specs.declared.page_locks.Grant.TheVariants.Waiting}
 
 few_more : (n : ℕ) (table : LockTable) → HasAtMost n table → HasAtMost (n + 1) table
 few_more n table few = record { holders = grind (arith, few.holders); pages = λ u. grind (arith, few.pages u) }

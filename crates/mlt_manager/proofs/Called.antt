@@ -4,13 +4,8 @@ use Rattle.std.specs.FinMap as map
 use Rattle.mlt_manager.proofs.Names.{ObjOp, cell_of, SameReservations, reservation_of, Running, HoldsNothing, clean_of, OperationFields, At, Transaction, IsPending, Table, KeepsCleanPages, FitsAt, all_of, images_kept, pending_room, ChangesOpen, HasCalled, IsIdleWith, IsOpenAt, MayCall, KeepsWhatCounts, IsManager, ManagerFields, state_of}
 use Rattle.mlt_hash_access.specs.Running.{AllRunning, KeepsRunning}
 use Rattle.mlt_tx.specs.Tables.{CallsNone, CancelsOne}
-use Rattle.mlt_manager_invariant.specs.Events.{Calls, with_transaction}
-use Rattle.mlt_manager_invariant.specs.States.{is_undoing}
-use Rattle.mlt_manager_invariant.proofs.Calls.{called_sound, cancelled_sound}
-use Rattle.mlt_manager_invariant.proofs.TraceStays.{called_traced}
-use Rattle.mlt_manager.proofs.Counts.{cancel_counts, same_counts}
-use Rattle.mlt_manager.proofs.Keeping.{IsStill, changed_keeps, same_manager}
-use Rattle.mlt_manager.proofs.Stepped.{keeps_what_counts, still}
+use Rattle.mlt_manager_invariant.{specs.Events.Calls, specs.Events.with_transaction, specs.States.is_undoing, proofs.Calls.called_sound, proofs.Calls.cancelled_sound, proofs.TraceStays.called_traced}
+use Rattle.mlt_manager.proofs.{Counts.cancel_counts, Counts.same_counts, Keeping.IsStill, Keeping.changed_keeps, Keeping.same_manager, Stepped.keeps_what_counts, Stepped.still}
 
 -- one number has one transaction
 pub one_there : (txs : Table) (tx : ℕ) (a b : Transaction) → map.get txs tx ≡ Some a → map.get txs tx ≡ Some b → a ≡ b

@@ -2,8 +2,7 @@
 use Rattle.std.proofs.Common.{◌≡◌, ℕ, List, [], ◌∷◌, ◌++◌, Some, refl, sym, ap, subst, ◌∙◌}
 use Rattle.std.specs.FinMap as map
 use Rattle.mlt_manager.proofs.Names.{Answer, At, Transaction, Table, inserted_here, HasStepped, IsOpenAt, txs_after, StepsBy, StepsUpTo, IsManager, ManagerFields}
-use Rattle.mlt_manager.proofs.Called.{one_there}
-use Rattle.mlt_manager.proofs.Stepped.{step_keeps}
+use Rattle.mlt_manager.proofs.{Called.one_there, Stepped.step_keeps}
 
 -- such steps were taken, and the transaction is at this
 pub record IsUnderWay {P : Type 0} (bits_of : P → ℕ → ℕ) (GoesOn : Answer → Type 0) (Is : At → Type 0) (old m : ManagerFields P) (tx : ℕ) : Type 0 where

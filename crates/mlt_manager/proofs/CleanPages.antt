@@ -1,15 +1,11 @@
 -- The clean pages of a manager are those of the invariant, and no others are
 use Rattle.mlt_manager.proofs.Names.{false≢true, nat_cmp_total, nat_tests, Base, Page, Pages, page_at, Images, image_of, RunningImages, clean_pages, Transaction, KeepsImage, KeepsNoImage, Table, IsSound, images_kept, HasCleanPages, ManagerFields, state_of}
-use Rattle.std.proofs.lemmas.Bool.{or_cases}
+use Rattle.std.{proofs.lemmas.Bool.or_cases, specs.Ordering.eq_by_cmp, specs.Cmp.unsigned_tied, specs.List.list_any}
 use Rattle.std.proofs.Common.{◌≡◌, ℕ, eqb, true, ◌⊎◌, Option, None, Some, List, [], ◌∷◌, is_some, unwrap_or, refl, sym, ap, ◌∙◌, inl, inr, arith, nat_cmp}
-use Rattle.std.specs.Ordering.{eq_by_cmp}
-use Rattle.std.specs.Cmp.{unsigned_tied}
-use Rattle.std.specs.List.{list_any}
 use Rattle.std.specs.FinMap as map
 use Rattle.mlt_page_locks.proofs.LockLaws.{writer_reads}
 use Rattle.mlt_page_subtx.specs.Images.{or_image}
-use Rattle.mlt_hash_access.specs.CleanPages.{image_at}
-use Rattle.mlt_hash_access.proofs.CleanLaws.{clean_page_of, clean_page_unwritten, others_have_none}
+use Rattle.mlt_hash_access.{specs.CleanPages.image_at, proofs.CleanLaws.clean_page_of, proofs.CleanLaws.clean_page_unwritten, proofs.CleanLaws.others_have_none}
 
 -- the image of a page that an open transaction keeps, of its images
 abbrev kept_in : Option Images → ℕ → Option (Option Page)

@@ -7,16 +7,9 @@ use Rattle.mlt_object_kinds.proofs.BaseLaws.{same_base as one_base}
 use Rattle.mlt_object_base.proofs.Meanings.{below_or_not}
 use Rattle.mlt_page.specs.Bits.{first_bits}
 use Rattle.mlt_hash_form.specs.File.{buckets_of, depth_of, dirs_of, entries_of, entry, lead_of}
-use Rattle.mlt_hash_form.specs.Form.{value_in}
-use Rattle.mlt_hash_form.proofs.Bits.{first_bits-with_first_bits, first_bits_below, with_first_bits, with_first_bits_below}
-use Rattle.mlt_hash_form.proofs.Lookup.{found as record_found, live_from_value}
-use Rattle.mlt_hash_form.proofs.MapChanges.{map_is_look_up}
-use Rattle.mlt_hash_form.proofs.Paths.{path_of}
-use Rattle.mlt_manager_invariant.specs.Copies.{IsPartOf}
-use Rattle.mlt_manager_invariant.proofs.Nothing.{empty_part}
-use Rattle.mlt_manager.specs.CleanBuckets.{IsCleanBucket, IsCleanDirectory, IsCleanHead, IsTrueOfClean}
-use Rattle.mlt_manager.proofs.CleanPages.{pages_clean, same_clean}
-use Rattle.mlt_manager.proofs.Headline.{contained, record_of_slot}
+use Rattle.mlt_hash_form.{specs.Form.value_in, proofs.Bits.first_bits-with_first_bits, proofs.Bits.first_bits_below, proofs.Bits.with_first_bits, proofs.Bits.with_first_bits_below, proofs.Lookup.found as record_found, proofs.Lookup.live_from_value, proofs.MapChanges.map_is_look_up, proofs.Paths.path_of}
+use Rattle.mlt_manager_invariant.{specs.Copies.IsPartOf, proofs.Nothing.empty_part}
+use Rattle.mlt_manager.{specs.CleanBuckets.IsCleanBucket, specs.CleanBuckets.IsCleanDirectory, specs.CleanBuckets.IsCleanHead, specs.CleanBuckets.IsTrueOfClean, proofs.CleanPages.pages_clean, proofs.CleanPages.same_clean, proofs.Headline.contained, proofs.Headline.record_of_slot}
 
 in_range_or_not : (c : Cell) → IsInRange c ⊎ (IsInRange c → ⊥)
 in_range_or_not (Account a) = below_or_not a (2 ^ 32)

@@ -1,13 +1,9 @@
 -- No step changes for how many transactions there are locks, how many pages there may be, or how many have committed
 use Rattle.std.proofs.Common.{◌≡◌, ℕ, List, [], ◌∷◌, ◌++◌, length, arith, Option, None, Some, inl, inr, refl, ap, ◌∙◌, length-append}
 use Rattle.mlt_manager.proofs.Names.{Running, Undo, LocalState, local, WalkContext, StepAnswer, TellsOfStep, OperationFields, ObjOp, ObjReply, TraceItem, commit_count, Answer, SharedState, At, Transaction, EndsBack, TellsOfBack, TellsOfPending, TellsAt}
-use Rattle.mlt_hash_access.specs.PageSteps.{LocksAtMost, TouchesOnePage, WritesAtMost}
-use Rattle.mlt_hash_access.specs.PageTurns.{IsRolledBack, TakesTurn}
-use Rattle.mlt_trace.specs.Numbers.{commit_numbers}
-use Rattle.mlt_trace.proofs.ItemLaws.{commit_numbers-append}
-use Rattle.mlt_tx.specs.Endings.{EndsSubtx, IsDone, RollsBackSubtx, tx_state}
-use Rattle.mlt_tx.specs.Steps.{TakesBack}
-use Rattle.mlt_tx.specs.Transactions.{LeavesRoom, TellsOfCancel}
+use Rattle.mlt_hash_access.specs.{PageSteps.LocksAtMost, PageSteps.TouchesOnePage, PageSteps.WritesAtMost, PageTurns.IsRolledBack, PageTurns.TakesTurn}
+use Rattle.mlt_trace.{specs.Numbers.commit_numbers, proofs.ItemLaws.commit_numbers-append}
+use Rattle.mlt_tx.specs.{Endings.EndsSubtx, Endings.IsDone, Endings.RollsBackSubtx, Endings.tx_state, Steps.TakesBack, Transactions.LeavesRoom, Transactions.TellsOfCancel}
 
 -- the limits of locks and pages are as they were
 pub record KeepsLimits (old new : LocalState) : Type 0 where

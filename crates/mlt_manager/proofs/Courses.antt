@@ -5,30 +5,16 @@ use Rattle.std.specs.FinSet as set
 use Rattle.mlt_manager.proofs.Names.{not_true, false≢true, Base, Limits, Refusal, ObjOp, ObjReply, Step, empty_base, TraceItem, entries_of, Request, Do, OperationFields, WalkContext, context_by, local, Answer, Event, Told, SharedState, At, Transaction, TellsAt, Table, IsPending, IsUndoing, KeepsImage, image_of, Page, GivesPseudokeys, inserted_here, inserted_elsewhere, removed_here, FitsAt, State, images_kept, state_of, HasCalled, HasEnded, HasStepped, IsOpenAt, txs_after, counted, ChangesOpen, LeavesBase, StepsBy, StepsUpTo, DropsIfItStands, HasRun, LetsGoOn, Stops, GoesOnBack, StopsBack, IsManager, ManagerFields, IsRun, Meets, Transcripts, transcripts_of, UndoneTo, lists_by}
 use Rattle.mlt_object_base.specs.declared.request.Request.TheVariants.{TakeBack}
 use Rattle.mlt_order.specs.Histories.{Lists, after_entries, after_entry, lists_of, no_lists}
-use Rattle.mlt_order.specs.Runs.{IsSerialBase}
-use Rattle.mlt_order.specs.Tables.{table_with}
-use Rattle.mlt_order.proofs.Tables.{at_each, with_entry-other, with_entry-same}
-use Rattle.mlt_trace.proofs.ItemLaws.{transcripts_counted}
-use Rattle.mlt_trace.specs.Entries.{entry_of}
+use Rattle.mlt_order.{specs.Runs.IsSerialBase, specs.Tables.table_with, proofs.Tables.at_each, proofs.Tables.with_entry-other, proofs.Tables.with_entry-same}
+use Rattle.mlt_trace.{proofs.ItemLaws.transcripts_counted, specs.Entries.entry_of}
 use Rattle.mlt_trace_check.proofs.Histories.{nothing_of_others}
-use Rattle.mlt_tx.specs.OpenAt.{IsNotIdle}
-use Rattle.mlt_tx.specs.Tables.{CallsNone, CancelsOne}
+use Rattle.mlt_tx.specs.{OpenAt.IsNotIdle, Tables.CallsNone, Tables.CancelsOne}
 use Rattle.mlt_types.specs.declared.refusal.Refusal.TheVariants.{IdsSpent, LogFull, OutOfMemory, TooManyOpen}
 use Rattle.mlt_manager_invariant.proofs.Tables.{removed_elsewhere}
 use Rattle.mlt_manager.specs.Answers.{HasBegun, HasBegunAbort, HasClosed, HasCommitted, IsCauseAtBegin, IsCauseAtCallOf, IsCauseAtCancel, IsCauseAtStep, IsIdle}
 use Rattle.mlt_manager.specs.Courses.{Course, IsBusy, IsSerializable, KeepsPromiseOver, Life, Ops, Tells, TellsAll, Turns, opening_course}
-use Rattle.mlt_manager.specs.Events.{Plays}
-use Rattle.mlt_manager.specs.Headline.{KeepsMainPromise}
-use Rattle.mlt_manager.specs.Undoings.{IsCauseAtUndo, IsNotUndoing}
-use Rattle.mlt_manager.proofs.Chains.{steps_keep}
-use Rattle.mlt_manager.proofs.Called.{one_there, pending_of, was_idle, was_with}
-use Rattle.mlt_manager.proofs.Headline.{same_transcripts}
-use Rattle.mlt_manager.proofs.Keeping.{counted_keeps}
+use Rattle.mlt_manager.{specs.Events.Plays, specs.Headline.KeepsMainPromise, specs.Undoings.IsCauseAtUndo, specs.Undoings.IsNotUndoing, proofs.Chains.steps_keep, proofs.Called.one_there, proofs.Called.pending_of, proofs.Called.was_idle, proofs.Called.was_with, proofs.Headline.same_transcripts, proofs.Keeping.counted_keeps, proofs.Promises.committed_alone, proofs.Promises.open_taken_back, proofs.Promises.serial, proofs.Stepped.step_keeps, proofs.UndoingAll.undoing_of_at, proofs.WholeBases.same_request}
 use Rattle.mlt_manager.proofs.Kept.{abort_kept, begin_kept, call_kept, cancel_kept, commit_kept, new_kept, step_kept, whole_kept, whole_undo_kept}
-use Rattle.mlt_manager.proofs.Promises.{committed_alone, open_taken_back, serial}
-use Rattle.mlt_manager.proofs.Stepped.{step_keeps}
-use Rattle.mlt_manager.proofs.UndoingAll.{undoing_of_at}
-use Rattle.mlt_manager.proofs.WholeBases.{same_request}
 
 -- ## Tables
 

@@ -3,8 +3,7 @@ use Rattle.mlt_manager.proofs.Names.{cases_eq, Refusal, ObjOp, Answer, At, Trans
 use Rattle.std.proofs.Common.{◌≡◌, ◌≢◌, ℕ, List, [], ◌∷◌, Bool, true, false, None, Some, Result, Ok, Err, inl, inr, sym, ap, subst, ◌∙◌}
 use Rattle.std.specs.FinMap as map
 use Rattle.mlt_manager_invariant.proofs.Tables.{removed_elsewhere}
-use Rattle.mlt_manager.proofs.RunningOn.{steps_pending}
-use Rattle.mlt_manager.proofs.WholeBases.{called_with, steps_ask, weaker}
+use Rattle.mlt_manager.proofs.{RunningOn.steps_pending, WholeBases.called_with, WholeBases.steps_ask, WholeBases.weaker}
 
 -- this is true of each open transaction; and of each but that of this number
 abbrev pub Each : (ℕ → Transaction → Type 0) → Table → Type 0

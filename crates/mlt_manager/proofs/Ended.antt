@@ -5,15 +5,8 @@ use Rattle.std.specs.FinSet as set
 use Rattle.mlt_manager.proofs.Names.{not_true, ObjOp, ObjReply, TraceItem, commit_count, Transaction, State, pending_room, HasEnded, IsManager, ManagerFields, state_of}
 use Rattle.mlt_trace.proofs.ItemLaws.{commits_counted}
 use Rattle.mlt_page_subtx.specs.Images.{started}
-use Rattle.mlt_manager_invariant.specs.Transactions.{Begins, BeginsAbort, Ends}
-use Rattle.mlt_manager_invariant.proofs.Aborts.{abort_sound}
-use Rattle.mlt_manager_invariant.proofs.Begins.{begin_sound}
-use Rattle.mlt_manager_invariant.proofs.Ends.{close_sound, commit_sound}
-use Rattle.mlt_manager_invariant.proofs.Items.{begin_traced, close_traced, commit_traced}
-use Rattle.mlt_manager_invariant.proofs.TraceStays.{abort_traced}
-use Rattle.mlt_manager.specs.Answers.{HasBegun, HasBegunAbort, HasClosed, HasCommitted}
-use Rattle.mlt_manager.proofs.Called.{was_idle, was_with}
-use Rattle.mlt_manager.proofs.Counts.{no_more_commits}
+use Rattle.mlt_manager_invariant.{specs.Transactions.Begins, specs.Transactions.BeginsAbort, specs.Transactions.Ends, proofs.Aborts.abort_sound, proofs.Begins.begin_sound, proofs.Ends.close_sound, proofs.Ends.commit_sound, proofs.Items.begin_traced, proofs.Items.close_traced, proofs.Items.commit_traced, proofs.TraceStays.abort_traced}
+use Rattle.mlt_manager.{specs.Answers.HasBegun, specs.Answers.HasBegunAbort, specs.Answers.HasClosed, specs.Answers.HasCommitted, proofs.Called.was_idle, proofs.Called.was_with, proofs.Counts.no_more_commits}
 use Rattle.mlt_manager.proofs.Keeping.{changed_keeps, len_added, removed_keeps, same_manager, set_added}
 
 module _ {P : Type 0} (bits_of : P → ℕ → ℕ) (m : ManagerFields P) (h : IsManager bits_of m) (tx : ℕ) (m' : ManagerFields P) where

@@ -3,14 +3,9 @@ use Rattle.std.proofs.Common.{◌≡◌, ℕ, ◌≤◌, ◌+◌, List, [], ◌�
 use Rattle.std.specs.FinMap as map
 use Rattle.mlt_manager.proofs.Names.{cases_eq, false≢true, nat_tests, Cell, ObjOp, ObjReply, cell_of, Do, SameReservations, reservation_of, is_holder, not_true, HoldsNothing, local, context_by, started_for, IsOpInRange, Answer, SharedState, At, Transaction, CallsOneFast, Table, may_step, inserted_here, FitsAt, all_of, images_kept, HasCalled, IsBusy, MayCall, IsManager, ManagerFields, state_of, HasRun, StepsOnUpTo}
 use Rattle.mlt_page_locks.proofs.Maps.{get_removed}
-use Rattle.mlt_tx_operation.specs.Operating.{MayOperate}
-use Rattle.mlt_tx_operation.specs.Fast.{NobodyHolds}
-use Rattle.mlt_tx.specs.Fast.{MayCallFast}
-use Rattle.mlt_tx.specs.Transactions.{MayStepAt}
-use Rattle.mlt_tx.specs.Tables.{DoesOneFast, StepsOneFast}
-use Rattle.mlt_manager.proofs.Called.{called_keeps}
-use Rattle.mlt_manager.proofs.Keeping.{len_removed, nobody}
-use Rattle.mlt_manager.proofs.Stepping.{stepped}
+use Rattle.mlt_tx_operation.specs.{Operating.MayOperate, Fast.NobodyHolds}
+use Rattle.mlt_tx.specs.{Fast.MayCallFast, Transactions.MayStepAt, Tables.DoesOneFast, Tables.StepsOneFast}
+use Rattle.mlt_manager.proofs.{Called.called_keeps, Keeping.len_removed, Keeping.nobody, Stepping.stepped}
 
 -- ---- who is open alone
 

@@ -2,8 +2,7 @@
 use Rattle.std.proofs.Common.{◌≡◌, ℕ, Option, Some, Bor, sym, ap, subst, ◌∙◌, option_copied}
 use Rattle.std.specs.FinMap as map
 use Rattle.mlt_manager.proofs.Names.{At, Transaction, IsPending, IsBusy, IsIdleWith, IsOpenAt, IsUndoing, Table}
-use Rattle.mlt_manager.specs.Answers.{IsIdle}
-use Rattle.mlt_manager.specs.Undoings.{IsNotUndoing}
+use Rattle.mlt_manager.specs.{Answers.IsIdle, Undoings.IsNotUndoing}
 
 -- one that was found is open at what it is at
 pub open_at : (txs : Table) (tx : ℕ) (got : Option (Bor Transaction)) (one : Bor Transaction) (Is : At → Type 0)

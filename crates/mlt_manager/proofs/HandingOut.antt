@@ -2,8 +2,7 @@
 use Rattle.std.proofs.Common.{ℕ, List, None, Some, sym, subst}
 use Rattle.mlt_manager.proofs.Names.{TraceItem, At, Transaction, FitsAt, IsSound, State, IsTraced, IsManager, ManagerFields}
 use Rattle.mlt_manager_invariant.specs.Sound.{Fits}
-use Rattle.mlt_manager.specs.HandingOut.{HandsOut, with_handed}
-use Rattle.mlt_manager.specs.Managers.{IsWithinLimits}
+use Rattle.mlt_manager.specs.{HandingOut.HandsOut, HandingOut.with_handed, Managers.IsWithinLimits}
 
 -- the state, with these items of its history handed out
 abbrev state_with : List TraceItem → State → State

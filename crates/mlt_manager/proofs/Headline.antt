@@ -3,10 +3,7 @@ use Rattle.mlt_manager.proofs.Names.{zero, false≢true, Cell, Account, Element,
 use Rattle.std.proofs.Common.{suc, ◌≡◌, ◌<◌, ℕ, Bool, false, List, [], ◌∷◌, length, get_or, Option, None, Some, Contains, fold, unwrap_or, ◌↔◌, refl, sym, ap, subst, ◌∙◌, arith, nat_cmp}
 use Rattle.std.specs.FinMap as map
 use Rattle.mlt_order.specs.Histories.{Entry, Lists, after_entries, after_entry, lists_of, no_lists}
-use Rattle.mlt_object_kinds.specs.Bases.{element_at, size_at}
-use Rattle.mlt_object_kinds.specs.Cells.{CellState}
-use Rattle.mlt_object_kinds.specs.Cells.CellState.{AccountState, ElementState, CounterState}
-use Rattle.mlt_object_kinds.proofs.Sizes.{size_below}
+use Rattle.mlt_object_kinds.{specs.Bases.element_at, specs.Bases.size_at, specs.Cells.CellState, specs.Cells.CellState.AccountState, specs.Cells.CellState.ElementState, specs.Cells.CellState.CounterState, proofs.Sizes.size_below}
 use Rattle.mlt_object_base.specs.Records.{counter_of_record}
 use Rattle.mlt_trace.specs.declared.item.TraceItem.TheVariants.{Begin, Op, Back, Commit, Abort}
 use Rattle.mlt_page.specs.declared.slot.Slot.TheVariants.{Free, Live}

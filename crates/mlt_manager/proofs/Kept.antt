@@ -3,15 +3,8 @@ use Rattle.std.proofs.Common.{◌≡◌, ◌<◌, ◌≤◌, ℕ, ◌^◌, Bool,
 use Rattle.std.specs.FinMap as map
 use Rattle.std.specs.FinSet as set
 use Rattle.mlt_manager.proofs.Names.{Limits, Refusal, empty_base, ObjOp, commit_count, GivesPseudokeys, Answer, IsSound, Transaction, IsTraced, AnswersAbort, AnswersBegin, AnswersCall, AnswersCancel, AnswersCommit, AnswersStep, LeavesBase, IsManager, ManagerFields, state_of, IsNew, AnswersWholeUndo, GoesOnBack, StopsBack, AnswersWhole}
-use Rattle.mlt_manager_invariant.specs.Opening.{opening_state}
-use Rattle.mlt_manager_invariant.proofs.Opening.{opening_sound}
-use Rattle.mlt_manager_invariant.proofs.TraceStays.{opening_traced}
-use Rattle.mlt_manager.proofs.Called.{called_keeps, cancelled_keeps, not_called_keeps}
-use Rattle.mlt_manager.proofs.Ended.{abort_begun_keeps, begun_keeps, closed_keeps, committed_keeps}
-use Rattle.mlt_manager.proofs.Keeping.{same_manager}
-use Rattle.mlt_manager.proofs.RunningOn.{run_keeps}
-use Rattle.mlt_manager.proofs.Stepped.{step_keeps}
-use Rattle.mlt_manager.proofs.Chains.{up_to_keeps}
+use Rattle.mlt_manager_invariant.{specs.Opening.opening_state, proofs.Opening.opening_sound, proofs.TraceStays.opening_traced}
+use Rattle.mlt_manager.proofs.{Called.called_keeps, Called.cancelled_keeps, Called.not_called_keeps, Ended.abort_begun_keeps, Ended.begun_keeps, Ended.closed_keeps, Ended.committed_keeps, Keeping.same_manager, RunningOn.run_keeps, Stepped.step_keeps, Chains.up_to_keeps}
 
 module _ {P : Type 0} (bits_of : P → ℕ → ℕ) (m m' : ManagerFields P) (h : IsManager bits_of m) where
   pub begin_kept : (r : Result ℕ Refusal) → AnswersBegin m m' r → IsManager bits_of m'

@@ -2,12 +2,10 @@
 use Rattle.std.proofs.Common.{◌≡◌, ℕ, true, false, Option, None, Some, is_some, refl, sym, ap, subst, ◌∙◌}
 use Rattle.std.specs.FinMap as map
 use Rattle.mlt_manager.proofs.Names.{Base, Step, UndoneTo, Transaction, with_base, HasBase, IsManager, ManagerFields, state_of, IsCommittedBaseOf, lists_by}
-use Rattle.mlt_order.specs.Histories.Stage.{Running}
-use Rattle.mlt_order.proofs.UndoLaws.{undone_to_same}
+use Rattle.mlt_order.{specs.Histories.Stage.Running, proofs.UndoLaws.undone_to_same}
 use Rattle.mlt_trace_check.proofs.Histories.{nothing_of_others}
 use Rattle.mlt_tx.specs.Standing.{entries_of, standing_in}
-use Rattle.mlt_manager.proofs.Promises.{committed_of}
-use Rattle.mlt_manager.proofs.Stepped.{same_base}
+use Rattle.mlt_manager.proofs.{Promises.committed_of, Stepped.same_base}
 
 module _ {P : Type 0} (bits_of : P → ℕ → ℕ) (m : ManagerFields P) (h : IsManager bits_of m) where
   -- undo lists have what the history says that stands

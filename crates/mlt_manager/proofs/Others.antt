@@ -3,18 +3,10 @@ use Rattle.mlt_manager.proofs.Names.{false≢true, nat_tests, cases_eq, Mode, Re
 use Rattle.std.proofs.lemmas.List.Elements.{Contains-append_cases}
 use Rattle.std.proofs.Common.{inl, inr, ◌≡◌, ◌≢◌, ℕ, true, List, [], ◌∷◌, Option, None, Some, is_some, Contains, Result, Ok, Err, IfOk, refl, sym, ap, subst, ◌∙◌, arith, IsSome, nat_cmp}
 use Rattle.std.specs.FinMap as map
-use Rattle.mlt_order.specs.Histories.{Stage}
-use Rattle.mlt_order.specs.Histories.Stage.{Ended, Fresh, Running}
-use Rattle.mlt_order.specs.Interleavings.{items_of}
-use Rattle.mlt_order.proofs.Parts.{items_of-other, items_of-same}
-use Rattle.mlt_order.proofs.RunLemmas.{contains-first, contains-later, contains-nothing}
-use Rattle.mlt_order.proofs.Stages.{contains-one}
-use Rattle.mlt_page_locks.specs.LockTables.{LockTable}
-use Rattle.mlt_page_locks.specs.Requests.{IsLowest, conflicts}
-use Rattle.mlt_tx_meaning.specs.AbstractStates.{lists_in}
-use Rattle.mlt_tx_meaning.proofs.Matches.{lists_kept}
-use Rattle.mlt_manager.proofs.Called.{called_keeps}
-use Rattle.mlt_manager.proofs.Chains.{steps_keep}
+use Rattle.mlt_order.{specs.Histories.Stage, specs.Histories.Stage.Ended, specs.Histories.Stage.Fresh, specs.Histories.Stage.Running, specs.Interleavings.items_of, proofs.Parts.items_of-other, proofs.Parts.items_of-same, proofs.RunLemmas.contains-first, proofs.RunLemmas.contains-later, proofs.RunLemmas.contains-nothing, proofs.Stages.contains-one}
+use Rattle.mlt_page_locks.specs.{LockTables.LockTable, Requests.IsLowest, Requests.conflicts}
+use Rattle.mlt_tx_meaning.{specs.AbstractStates.lists_in, proofs.Matches.lists_kept}
+use Rattle.mlt_manager.proofs.{Called.called_keeps, Chains.steps_keep}
 
 -- who stands in the way of a lock is another, and holds pages
 way_of : (table : LockTable) (tx q by : ℕ) (mode : Mode) (e : Option Modes) → map.get table.held by ≡ e → conflicts table tx q mode by ≡ true → is_some e ≡ true

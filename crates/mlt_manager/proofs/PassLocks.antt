@@ -5,36 +5,17 @@ use Rattle.mlt_manager.proofs.Names.{false≢true, Mode, ObjReply, Request, Page
 use Rattle.std.proofs.lemmas.Bool.{cases_Bool}
 use Rattle.mlt_types.specs.declared.mode.Mode.TheVariants.{Exclusive}
 use Rattle.mlt_object_base.specs.Requests.{target_of}
-use Rattle.mlt_page_locks.specs.LockTables.{mode_held}
-use Rattle.mlt_page_locks.specs.Requests.{stronger}
-use Rattle.mlt_page_locks.proofs.LockLaws.{stronger_exclusive}
-use Rattle.mlt_hash_form.specs.File.{dir_of, row_of}
-use Rattle.mlt_hash_form.specs.Held.{Agrees, over}
-use Rattle.mlt_hash_access.specs.LocalStates.{page_before}
-use Rattle.mlt_hash_access.specs.Reading.{HasReadPlace}
-use Rattle.mlt_hash_access.specs.Views.{rebased}
-use Rattle.mlt_hash_access.proofs.Rebased.{rebased_agrees}
+use Rattle.mlt_page_locks.{specs.LockTables.mode_held, specs.Requests.stronger, proofs.LockLaws.stronger_exclusive}
+use Rattle.mlt_hash_form.specs.{File.dir_of, File.row_of, Held.Agrees, Held.over}
+use Rattle.mlt_hash_access.{specs.LocalStates.page_before, specs.Reading.HasReadPlace, specs.Views.rebased, proofs.Rebased.rebased_agrees, specs.Running.images_by, specs.Running.local_of}
 use Rattle.mlt_hash_access.proofs.Views.{exclusive_stays, holds_exclusively, mode_of_others, mode_of_page, own_has_image, seen_held}
-use Rattle.mlt_hash_pair.specs.Pairs.{HoldsDescents, PairFields}
+use Rattle.mlt_hash_pair.specs.{Pairs.HoldsDescents, Pairs.PairFields, declared.descent.Descent.Descent}
 use Rattle.mlt_hash_pair.specs.Descents as pair_read
-use Rattle.mlt_hash_pair.specs.declared.descent.Descent.{Descent}
-use Rattle.mlt_hash.specs.Changes.{IsChangedPhase}
+use Rattle.mlt_hash.{specs.Changes.IsChangedPhase, specs.Splitting.IsUnderWay, specs.declared.pass.Pass.Pass, specs.declared.pass.Phase.Phase, proofs.Passed.read_at_bucket}
 use Rattle.mlt_hash.specs.Passes.{MayHoldMore, bucket_mode, directory_held, directory_mode, header_held, header_mode}
-use Rattle.mlt_hash.specs.Splitting.{IsUnderWay}
 use Rattle.mlt_hash.specs.Walks.{Before, HasRead, HoldsByPass, IsAtBucket, IsHeaded, IsPlaced, IsStanding, Stands, WalkFields, context_after, nothing_before, one_key}
-use Rattle.mlt_hash.specs.declared.pass.Pass.{Pass}
-use Rattle.mlt_hash.specs.declared.pass.Phase.{Phase}
-use Rattle.mlt_hash.proofs.Passed.{read_at_bucket}
-use Rattle.mlt_tx_two_records.specs.declared.two_records.TwoRecordWalk.{TwoRecordWalk}
-use Rattle.mlt_tx_two_records.specs.declared.two_records.TwoRecordWalk.TheVariants.{First, Owing, Wide}
-use Rattle.mlt_tx_two_records.specs.declared.two_records.WideStage.{WideStage}
-use Rattle.mlt_tx_two_records.specs.FirstPass.{HasKeys}
-use Rattle.mlt_tx_two_records.specs.WidePass.{HasPutOwn}
-use Rattle.mlt_tx_operation.specs.declared.access_path.AccessPath.{AccessPath}
-use Rattle.mlt_tx_operation.specs.declared.access_path.AccessPath.TheVariants.{One, Two}
-use Rattle.mlt_tx_operation.specs.Operating.{OperatesBy, StandsOrTold}
-use Rattle.mlt_tx_operation.specs.Walking.{FitsPhase, WalkingFields, walking}
-use Rattle.mlt_hash_access.specs.Running.{images_by, local_of}
+use Rattle.mlt_tx_two_records.specs.{declared.two_records.TwoRecordWalk.TwoRecordWalk, declared.two_records.TwoRecordWalk.TheVariants.First, declared.two_records.TwoRecordWalk.TheVariants.Owing, declared.two_records.TwoRecordWalk.TheVariants.Wide, declared.two_records.WideStage.WideStage, FirstPass.HasKeys, WidePass.HasPutOwn}
+use Rattle.mlt_tx_operation.specs.{declared.access_path.AccessPath.AccessPath, declared.access_path.AccessPath.TheVariants.One, declared.access_path.AccessPath.TheVariants.Two, Operating.OperatesBy, Operating.StandsOrTold, Walking.FitsPhase, Walking.WalkingFields, Walking.walking}
 use Rattle.mlt_manager_invariant.proofs.Openness.{agrees_in}
 use Rattle.mlt_manager.specs.PassLocks.{HoldsBoth, HoldsOver, HoldsPair, HoldsWay, IsOnWay, KeysWay, LocksAt, LocksBy, LocksOf, LocksOfTwo, LocksOverAt, images_at, running_at, running_of}
 

@@ -1,8 +1,7 @@
 -- A run of events, one after another
 use Rattle.mlt_manager.proofs.Names.{zero, Limits, Event, Told, counted, IsRun, Meets, ManagerFields, IsNew, KeepsPromises}
 use Rattle.std.proofs.Common.{suc, ◌≡◌, ◌<◌, ◌≤◌, ℕ, ◌+◌, List, [], ◌∷◌, ◌++◌, length, take, get_or, refl, sym, ap, subst, ◌∙◌, arith}
-use Rattle.mlt_manager.specs.Events.{Plays}
-use Rattle.mlt_manager.proofs.Tolds.{history_told}
+use Rattle.mlt_manager.{specs.Events.Plays, proofs.Tolds.history_told}
 
 -- the events so far, and what they were told
 pub record HasPlayed {P : Type 0} (bits_of : P → ℕ → ℕ) (limits : Limits) (pseudo : P) (events : List Event) (tolds : List Told) (now : ManagerFields P) : Type 0 where

@@ -5,21 +5,12 @@ use Rattle.mlt_manager.proofs.Names.{Base, Step, empty_base, UndoneTo, TraceItem
 use Rattle.std.specs.FinSet as set
 use Rattle.mlt_hash_form.specs.Prefixes.{IsExtendibleHashFile}
 use Rattle.mlt_hash_ghosts.proofs.Transactions.{kept_by_match}
-use Rattle.mlt_trace.specs.Ranges.{AllFit}
-use Rattle.mlt_trace_check.specs.Writable.{AreWritable}
-use Rattle.mlt_order.specs.Histories.{IsCommitOrderSerializable}
-use Rattle.mlt_order.specs.Runs.{IsSerialBase}
-use Rattle.mlt_trace.specs.Items.{trace_text}
-use Rattle.mlt_trace.specs.Numbers.{committed_txs}
-use Rattle.mlt_trace_check.specs.Traces.{IsAcceptedTrace, told}
-use Rattle.mlt_trace_check.proofs.Histories.{serializable}
+use Rattle.mlt_trace.specs.{Ranges.AllFit, Items.trace_text, Numbers.committed_txs}
+use Rattle.mlt_trace_check.{specs.Writable.AreWritable, specs.Traces.IsAcceptedTrace, specs.Traces.told, proofs.Histories.serializable}
+use Rattle.mlt_order.specs.{Histories.IsCommitOrderSerializable, Runs.IsSerialBase}
 use Rattle.mlt_tx_meaning.specs.AbstractStates.{ledger_of}
 use Rattle.mlt_manager_invariant.specs.Traced.{IsCommittedBase}
-use Rattle.mlt_manager.specs.Headline.{KeepsMainPromise}
-use Rattle.mlt_manager.proofs.CleanPages.{pages_clean}
-use Rattle.mlt_manager.proofs.Headline.{pages_mean, same_transcripts}
-use Rattle.mlt_manager.proofs.PassLocks.{pass_locks, written_locks}
-use Rattle.mlt_manager.proofs.Stepped.{same_base}
+use Rattle.mlt_manager.{specs.Headline.KeepsMainPromise, proofs.CleanPages.pages_clean, proofs.Headline.pages_mean, proofs.Headline.same_transcripts, proofs.PassLocks.pass_locks, proofs.PassLocks.written_locks, proofs.Stepped.same_base}
 
 module _ {P : Type 0} (bits_of : P → ℕ → ℕ) (m : ManagerFields P) (h : IsManager bits_of m) where
   abbrev pages : map.FinMap nat_cmp Page

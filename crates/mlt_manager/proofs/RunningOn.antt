@@ -2,11 +2,9 @@
 use Rattle.std.proofs.Common.{◌≡◌, ◌<◌, ◌≤◌, ℕ, Option, None, Some, refl, sym, ap, subst, ◌∙◌, arith}
 use Rattle.std.specs.FinMap as map
 use Rattle.mlt_manager.proofs.Names.{ObjOp, local, view_of, context_by, OperationFields, Answer, SharedState, At, Transaction, TellsOfPending, IsPending, StepsPending, TellsAt, tx_state_of, Table, inserted_here, HasCalled, HasStepped, IsOpenAt, txs_after, IsManager, ManagerFields, DropsIfItStands, HasRun, LetsGoOn, StepsOnUpTo, Stops}
-use Rattle.mlt_tx_operation.specs.MostSteps.{most_steps}
-use Rattle.mlt_tx_operation.proofs.MostSteps.{one_fewer_at_least}
+use Rattle.mlt_tx_operation.{specs.MostSteps.most_steps, proofs.MostSteps.one_fewer_at_least}
 use Rattle.mlt_tx.specs.Transactions.{pending_after}
-use Rattle.mlt_manager.specs.Wholes.{StandsIn}
-use Rattle.mlt_manager.proofs.Called.{called_keeps, cancelled_keeps, pending_of}
+use Rattle.mlt_manager.{specs.Wholes.StandsIn, proofs.Called.called_keeps, proofs.Called.cancelled_keeps, proofs.Called.pending_of}
 use Rattle.mlt_manager.proofs.Chains.{IsUnderWay, found_before, last_taken, one_taken, there_after, up_to_keeps}
 
 -- how many steps the pending operation of the transaction still takes at most, those that wait aside

@@ -4,22 +4,8 @@ use Rattle.std.specs.FinMap as map
 use Rattle.mlt_manager.proofs.Names.{Page, Base, Step, ObjOp, ObjReply, IsLowestClash, TraceItem, clean_pages, context_by, OperationFields, Do, context_of, Answer, SharedState, At, Transaction, EndsBack, StepsBack, StepsPending, TellsAt, tx_state_of, KeepsImage, KeepsNoImage, Table, KeepsCleanPages, State, abstract_state_of, inserted_here, removed_here, HasStepped, IsOpenAt, active_after, txs_after, HasBase, IsPendingWith, KeepsWhatCounts, LeavesBase, TakesStepBack, IsManager, ManagerFields, state_of}
 use Rattle.mlt_tx_meaning.proofs.Fixed.{history_fixes}
 use Rattle.mlt_tx.specs.Steps.{Ends}
-use Rattle.mlt_manager_invariant.specs.Events.{EndsPending}
-use Rattle.mlt_manager_invariant.specs.Undoing.{LedBack, TakesLastBack, with_aborted, with_undone}
-use Rattle.mlt_manager_invariant.proofs.Aborting.{aborted_sound}
-use Rattle.mlt_manager_invariant.proofs.Done.{done_sound}
-use Rattle.mlt_manager_invariant.proofs.Inverting.{inverse_sound}
-use Rattle.mlt_manager_invariant.proofs.Pending.{not_done_sound}
-use Rattle.mlt_manager_invariant.proofs.Replied.{reply_is_step}
-use Rattle.mlt_manager_invariant.proofs.Stays.{stays_sound}
-use Rattle.mlt_manager_invariant.proofs.Tables.{removed_inserted}
-use Rattle.mlt_manager_invariant.proofs.Undoing.{undone_sound}
-use Rattle.mlt_manager_invariant.proofs.Items.{done_traced, last_undone_traced, undone_traced}
-use Rattle.mlt_manager_invariant.proofs.TraceStays.{clean_traced}
-use Rattle.mlt_manager.specs.Bases.{MakesStep}
-use Rattle.mlt_manager.proofs.CleanPages.{clean_alike, pages_clean, same_clean}
-use Rattle.mlt_manager.proofs.Counts.{KeepsCounts, step_counts}
-use Rattle.mlt_manager.proofs.Keeping.{IsStill, changed_keeps, removed_keeps, same_manager}
+use Rattle.mlt_manager_invariant.{specs.Events.EndsPending, specs.Undoing.LedBack, specs.Undoing.TakesLastBack, specs.Undoing.with_aborted, specs.Undoing.with_undone, proofs.Aborting.aborted_sound, proofs.Done.done_sound, proofs.Inverting.inverse_sound, proofs.Pending.not_done_sound, proofs.Replied.reply_is_step, proofs.Stays.stays_sound, proofs.Tables.removed_inserted, proofs.Undoing.undone_sound, proofs.Items.done_traced, proofs.Items.last_undone_traced, proofs.Items.undone_traced, proofs.TraceStays.clean_traced}
+use Rattle.mlt_manager.{specs.Bases.MakesStep, proofs.CleanPages.clean_alike, proofs.CleanPages.pages_clean, proofs.CleanPages.same_clean, proofs.Counts.KeepsCounts, proofs.Counts.step_counts, proofs.Keeping.IsStill, proofs.Keeping.changed_keeps, proofs.Keeping.removed_keeps, proofs.Keeping.same_manager}
 
 module _ {P : Type 0} (bits_of : P → ℕ → ℕ) (m : ManagerFields P) (h : IsManager bits_of m) (tx : ℕ) where
   abbrev pub now : State

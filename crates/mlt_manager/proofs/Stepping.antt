@@ -3,10 +3,8 @@ use Rattle.std.proofs.Common.{◌≡◌, ◌≢◌, ◌≤◌, ℕ, Option, Some
 use Rattle.std.specs.FinMap as map
 use Rattle.mlt_manager.proofs.Names.{room_within_total, Refusal, WalkContext, context_by, Images, At, Transaction, IsPending, TellsAt, images_kept, pending_room, room_of, may_step, Answer, SharedState, Table, AnswersStep, HasStepped, IsBusy, IsOpenAt, active_after, txs_after, IsManager, ManagerFields, state_of}
 use Rattle.mlt_page_subtx.specs.Images.{AreThere}
-use Rattle.mlt_tx.specs.Transactions.{MayStepIn}
+use Rattle.mlt_tx.specs.{Transactions.MayStepIn, OpenAt.MayStepIfBusy, OpenAt.TriesStep, Tables.StepsOne}
 use Rattle.std.specs.FinSet as set
-use Rattle.mlt_tx.specs.OpenAt.{MayStepIfBusy, TriesStep}
-use Rattle.mlt_tx.specs.Tables.{StepsOne}
 
 not_idle : (a : At) → IsBusy a → a ≢ At.Idle
 not_idle a busy is = subst IsBusy is busy

@@ -2,8 +2,7 @@
 use Rattle.std.proofs.Common.{◌≡◌, ℕ, List, [], ◌∷◌, ◌++◌, length, replicate, true, false, Option, None, Some, Ok, Err, refl, sym, ap, subst, ◌∙◌, append_assoc, append-nil, nat_cmp}
 use Rattle.std.specs.FinMap as map
 use Rattle.mlt_manager.proofs.Names.{Limits, Refusal, ObjOp, TraceItem, Answer, Event, Told, WalkContext, context_by, local, OperationFields, Do, SharedState, At, Transaction, TellsAt, Table, HasStepped, counted, txs_after, IsPendingWith, LeavesBase, WholeLeavesBase, StepsBy, StepsUpTo, IsRun, Meets, ManagerFields, IsNew, GoesOnBack, StopsBack}
-use Rattle.mlt_order.specs.Tables.{table_with}
-use Rattle.mlt_order.proofs.Tables.{with_entry-other, with_entry-same}
+use Rattle.mlt_order.{specs.Tables.table_with, proofs.Tables.with_entry-other, proofs.Tables.with_entry-same}
 use Rattle.mlt_manager.specs.Tolds.{AddsItems, AreToldBy, CalledOps, called_after, none_called}
 use Rattle.mlt_manager.proofs.EachOpen.{Each, EachOther, LooksAt, abort_each, begin_each, commit_each, each_with, each_without, others_of, others_with, same_each, table_is, whole_each}
 use Rattle.mlt_manager.proofs.WholeBases.{same_request}

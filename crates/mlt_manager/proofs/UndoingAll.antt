@@ -2,8 +2,7 @@
 use Rattle.std.proofs.Common.{◌≡◌, ◌<◌, ◌≤◌, ℕ, ◌+◌, ◌*◌, [], ◌∷◌, length, Option, None, Some, refl, sym, ap, subst, ◌∙◌, ◌⊎◌, inl, inr, arith, length-append}
 use Rattle.std.specs.FinMap as map
 use Rattle.mlt_manager.proofs.Names.{Undo, local, View, view_of, WalkContext, context_by, Request, OperationFields, started_for, Answer, SharedState, At, Transaction, TellsOfBack, StepsBack, TellsAt, tx_state_of, HasStepped, IsOpenAt, IsUndoing, txs_after, ManagerFields, GoesOnBack, StopsBack}
-use Rattle.mlt_object_base.specs.declared.request.Request.TheVariants.{TakeBack}
-use Rattle.mlt_object_base.specs.Requests.{size_key_of}
+use Rattle.mlt_object_base.specs.{declared.request.Request.TheVariants.TakeBack, Requests.size_key_of}
 use Rattle.mlt_tx_operation.specs.Operating.{access_path_for, steps_by, steps_left}
 use Rattle.mlt_manager.specs.Undoings.{StepsBackUpTo}
 use Rattle.mlt_manager.proofs.Chains.{IsUnderWay, found_before, last_taken, one_taken, there_after}

@@ -2,12 +2,8 @@
 use Rattle.std.proofs.Common.{zero, suc, ◌≡◌, ℕ, List, [], ◌∷◌, ◌++◌, length, replicate, Some, Result, Ok, Err, IfOk, refl, sym, ap, subst, ◌∙◌, append_assoc, append-nil}
 use Rattle.std.specs.FinMap as map
 use Rattle.mlt_manager.proofs.Names.{Refusal, Base, Step, ObjOp, ObjReply, TraceItem, Answer, Transaction, HasStepped, IsOpenAt, IsUndoing, HasBase, KeepsWhatCounts, LeavesBase, TakesStepBack, UndoingLeavesBase, StepsBy, StepsUpTo, IsManager, ManagerFields, AnswersWholeUndo, GoesOnBack, StopsBack}
-use Rattle.mlt_order.specs.Runs.{Runs}
-use Rattle.mlt_order.proofs.RunLemmas.{runs_append}
-use Rattle.mlt_manager.proofs.Called.{one_there}
-use Rattle.mlt_manager.proofs.Stepped.{step_keeps}
-use Rattle.mlt_manager.proofs.UndoingAll.{going_entries, still_undoing, there_now}
-use Rattle.mlt_manager.proofs.WholeBases.{base_by}
+use Rattle.mlt_order.{specs.Runs.Runs, proofs.RunLemmas.runs_append}
+use Rattle.mlt_manager.proofs.{Called.one_there, Stepped.step_keeps, UndoingAll.going_entries, UndoingAll.still_undoing, UndoingAll.there_now, WholeBases.base_by}
 
 -- one more of the same, before or behind
 one_more : {A : Type 0} (n : ℕ) (a : A) (rest : List A) → replicate n a ++ a ∷ rest ≡ a ∷ (replicate n a ++ rest)

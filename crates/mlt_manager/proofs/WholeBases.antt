@@ -3,12 +3,7 @@ use Rattle.mlt_manager.proofs.Names.{cases_eq, Refusal, Base, Step, empty_base, 
 use Rattle.std.proofs.Common.{◌≡◌, ℕ, List, [], ◌∷◌, ◌++◌, Some, Result, Ok, Err, IfOk, OnOk, inl, inr, refl, sym, ap, subst, ◌∙◌}
 use Rattle.std.specs.FinMap as map
 use Rattle.mlt_order.specs.Histories.{IsHistory}
-use Rattle.mlt_manager.specs.Bases.{AddsStep, IsBlockedBy}
-use Rattle.mlt_manager.proofs.Called.{called_keeps, cancelled_keeps, one_there}
-use Rattle.mlt_manager.proofs.Chains.{found_before, steps_keep}
-use Rattle.mlt_manager.proofs.CleanPages.{still_clean}
-use Rattle.mlt_manager.proofs.RunningOn.{operation_at, steps_pending, there_by}
-use Rattle.mlt_manager.proofs.Stepped.{step_keeps}
+use Rattle.mlt_manager.{specs.Bases.AddsStep, specs.Bases.IsBlockedBy, proofs.Called.called_keeps, proofs.Called.cancelled_keeps, proofs.Called.one_there, proofs.Chains.found_before, proofs.Chains.steps_keep, proofs.CleanPages.still_clean, proofs.RunningOn.operation_at, proofs.RunningOn.steps_pending, proofs.RunningOn.there_by, proofs.Stepped.step_keeps}
 
 -- one after another
 then_keeps : {P : Type 0} (old mid new : ManagerFields P) → KeepsWhatCounts old mid → KeepsWhatCounts mid new → KeepsWhatCounts old new

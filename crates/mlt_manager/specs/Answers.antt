@@ -9,12 +9,9 @@ use Rattle.mlt_object_locks.specs.Locks.{SameReservations, is_of_other, reservat
 use Rattle.mlt_page_subtx.specs.Images.{started}
 use Rattle.mlt_trace.specs.declared.item.TraceItem.{TraceItem}
 use Rattle.mlt_event.specs.declared.answer.Answer.{Answer}
-use Rattle.mlt_tx.specs.declared.transaction.At.{At}
-use Rattle.mlt_tx.specs.declared.transaction.Transaction.{Transaction}
-use Rattle.mlt_tx.specs.Transactions.{IsPending}
-pub use Rattle.mlt_tx.specs.Transactions.{IsUndoing}
+use Rattle.mlt_tx.specs.{declared.transaction.At.At, declared.transaction.Transaction.Transaction, Transactions.IsPending}
+pub use Rattle.mlt_tx.specs.{Transactions.IsUndoing, OpenAt.IsBusy, OpenAt.IsCauseAtCallOf, OpenAt.IsCauseAtStep, OpenAt.IsIdle, OpenAt.IsIdleWith, OpenAt.IsNotIdle, OpenAt.IsNotOpen, OpenAt.IsOpenAt, OpenAt.MayCallOne}
 use Rattle.mlt_hash.specs.Walks.{context_by}
-pub use Rattle.mlt_tx.specs.OpenAt.{IsBusy, IsCauseAtCallOf, IsCauseAtStep, IsIdle, IsIdleWith, IsNotIdle, IsNotOpen, IsOpenAt, MayCallOne}
 use Rattle.mlt_tx.specs.Tables.{CallsNone, CallsOne, CancelsOne, PutsOneAt, StepsOne, Table}
 use Rattle.mlt_tx_meaning.specs.Presences.{IsOpInRange}
 use Rattle.mlt_manager.specs.Managers.{ManagerFields}

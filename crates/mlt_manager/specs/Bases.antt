@@ -3,22 +3,15 @@ use Rattle.std.specs.Prelude.{ℕ, ◌≡◌, List, [], ◌∷◌, ◌++◌, Opt
 use Rattle.std.specs.Ordering.{nat_cmp}
 use Rattle.std.specs.FinMap as map
 use Rattle.mlt_page.specs.declared.page.Page.{Page}
-use Rattle.mlt_object_kinds.specs.Bases.{Base, Step, empty_base}
-use Rattle.mlt_object_kinds.specs.declared.operation.ObjOp.{ObjOp}
-use Rattle.mlt_object_kinds.specs.declared.operation.ObjReply.{ObjReply}
-use Rattle.mlt_order.specs.Histories.{IsHistory}
-use Rattle.mlt_order.specs.Runs.{Runs}
-use Rattle.mlt_trace.specs.Entries.{entries_of}
+use Rattle.mlt_object_kinds.specs.{Bases.Base, Bases.Step, Bases.empty_base, declared.operation.ObjOp.ObjOp, declared.operation.ObjReply.ObjReply}
+use Rattle.mlt_order.specs.{Histories.IsHistory, Runs.Runs}
+use Rattle.mlt_trace.specs.{Entries.entries_of, declared.item.TraceItem.TraceItem}
 use Rattle.mlt_object_locks.specs.Locks.{IsLowestClash}
-use Rattle.mlt_trace.specs.declared.item.TraceItem.{TraceItem}
 use Rattle.mlt_hash_form.specs.File.{depth_of, header_of}
 use Rattle.mlt_object_base.specs.declared.request.Request.TheVariants.{Do}
 use Rattle.mlt_event.specs.declared.answer.Answer.{Answer}
-use Rattle.mlt_tx.specs.declared.transaction.At.{At}
-use Rattle.mlt_tx.specs.declared.transaction.Transaction.{Transaction}
-use Rattle.mlt_tx.specs.Tables.{KeepsImage, KeepsNoImage}
-use Rattle.mlt_manager.specs.Answers.{IsOpenAt}
-use Rattle.mlt_manager.specs.Managers.{ManagerFields}
+use Rattle.mlt_tx.specs.{declared.transaction.At.At, declared.transaction.Transaction.Transaction, Tables.KeepsImage, Tables.KeepsNoImage}
+use Rattle.mlt_manager.specs.{Answers.IsOpenAt, Managers.ManagerFields}
 
 -- the history leads to this base from the empty one
 abbrev pub HasBase : {P : Type 0} → ManagerFields P → Base → Type 0

@@ -1,8 +1,7 @@
 -- Steps of one transaction, one after another
 use Rattle.std.specs.Prelude.{ℕ, ◌≡◌, List, [], ◌∷◌}
 use Rattle.mlt_event.specs.declared.answer.Answer.{Answer}
-use Rattle.mlt_manager.specs.Answers.{HasStepped}
-use Rattle.mlt_manager.specs.Managers.{ManagerFields}
+use Rattle.mlt_manager.specs.{Answers.HasStepped, Managers.ManagerFields}
 
 -- steps that are each told to go on: what each leaves, and what it is told
 abbrev pub StepsBy : {P : Type 0} → (P → ℕ → ℕ) → (Answer → Type 0) → ManagerFields P

@@ -2,11 +2,9 @@
 use Rattle.std.specs.Prelude.{ℕ, ◌≡◌, ◌/◌, List, Some, slice_index}
 use Rattle.std.specs.Ordering.{nat_cmp}
 use Rattle.std.specs.FinMap as map
-use Rattle.mlt_page.specs.Values.{BucketFields, HeadFields}
-use Rattle.mlt_page.specs.declared.page.Page.{Page}
+use Rattle.mlt_page.specs.{Values.BucketFields, Values.HeadFields, declared.page.Page.Page}
 use Rattle.mlt_hash_form.specs.File.{FilePages, dirs_of, entry}
-use Rattle.mlt_manager.specs.Bases.{HasCleanPages}
-use Rattle.mlt_manager.specs.Managers.{ManagerFields}
+use Rattle.mlt_manager.specs.{Bases.HasCleanPages, Managers.ManagerFields}
 
 -- this is true of the clean pages
 abbrev pub IsTrueOfClean : {P : Type 0} → ManagerFields P → (FilePages → Type 0) → Type 0

@@ -2,23 +2,15 @@
 use Rattle.std.specs.Prelude.{ℕ, ◌≡◌, ◌≢◌, ◌+◌, List, [], ◌∷◌, ◌++◌, length, Option, Contains, true, false}
 use Rattle.std.specs.Ordering.{nat_cmp}
 use Rattle.std.specs.FinMap as map
-use Rattle.mlt_types.specs.declared.refusal.Refusal.{Refusal}
-use Rattle.mlt_types.specs.declared.refusal.Refusal.TheVariants.{IdsSpent, LogFull, OutOfMemory, TooManyOpen}
-use Rattle.mlt_object_kinds.specs.Bases.{Base, Step, empty_base}
-use Rattle.mlt_object_kinds.specs.declared.operation.ObjOp.{ObjOp}
-use Rattle.mlt_object_kinds.specs.declared.operation.ObjReply.{ObjReply}
-use Rattle.mlt_order.specs.Interleavings.{UndoneTo}
-use Rattle.mlt_order.specs.Runs.{IsSerialBase}
-use Rattle.mlt_order.specs.Tables.{table_with}
+use Rattle.mlt_types.specs.declared.refusal.Refusal.{Refusal, TheVariants.IdsSpent, TheVariants.LogFull, TheVariants.OutOfMemory, TheVariants.TooManyOpen}
+use Rattle.mlt_object_kinds.specs.{Bases.Base, Bases.Step, Bases.empty_base, declared.operation.ObjOp.ObjOp, declared.operation.ObjReply.ObjReply}
+use Rattle.mlt_order.specs.{Interleavings.UndoneTo, Runs.IsSerialBase, Tables.table_with}
 use Rattle.mlt_event.specs.declared.answer.Answer.TheVariants.{Going, Waiting, Blocked, Done, Undone, Aborted, Refused}
-use Rattle.mlt_event.specs.declared.event.Event.{Event}
-use Rattle.mlt_event.specs.declared.told.Told.{Told}
+use Rattle.mlt_event.specs.declared.{event.Event.Event, told.Told.Told}
 use Rattle.mlt_event.specs.declared.told.Told.TheVariants.{Begun, Called, Answered, Cancelled, Committed, Aborting, Refused}
 use Rattle.mlt_page.specs.declared.page.Page.{Page}
 use Rattle.mlt_tx.specs.Tables.{KeepsImage}
-use Rattle.mlt_manager.specs.Bases.{HasCleanPages}
-use Rattle.mlt_manager.specs.Headline.{PagesMean}
-use Rattle.mlt_manager.specs.Managers.{ManagerFields}
+use Rattle.mlt_manager.specs.{Bases.HasCleanPages, Headline.PagesMean, Managers.ManagerFields}
 
 -- operations of one transaction, in order, each with the reply that it was told
 abbrev pub Ops : Type 0

@@ -1,18 +1,9 @@
 -- One event of a manager, and a list of events
 use Rattle.std.specs.Prelude.{ℕ, ◌≡◌, List, [], ◌∷◌, Result, Ok, Err}
-use Rattle.mlt_types.specs.declared.refusal.Refusal.{Refusal}
-use Rattle.mlt_event.specs.declared.answer.Answer.{Answer}
-use Rattle.mlt_event.specs.declared.event.Event.{Event}
-use Rattle.mlt_event.specs.declared.told.Told.{Told}
+use Rattle.mlt_types.specs.declared.{refusal.Refusal.Refusal, limits.Limits.Limits}
+use Rattle.mlt_event.specs.declared.{answer.Answer.Answer, event.Event.Event, told.Told.Told}
 use Rattle.mlt_manager.specs.Answers.{AnswersAbort, AnswersBegin, AnswersCall, AnswersCancel, AnswersCommit, AnswersStep, IsByAnother, counted}
-use Rattle.mlt_manager.specs.Bases.{KeepsWhatCounts, LeavesBase, UndoingLeavesBase, WholeLeavesBase}
-use Rattle.mlt_manager.specs.Managers.{ManagerFields}
-use Rattle.mlt_types.specs.declared.limits.Limits.{Limits}
-use Rattle.mlt_manager.specs.Openings.{IsNew}
-use Rattle.mlt_manager.specs.Promises.{KeepsPromises}
-use Rattle.mlt_manager.specs.Tolds.{AreToldBy, none_called}
-use Rattle.mlt_manager.specs.Undoings.{AnswersWholeUndo}
-use Rattle.mlt_manager.specs.Wholes.{AnswersWhole}
+use Rattle.mlt_manager.specs.{Bases.KeepsWhatCounts, Bases.LeavesBase, Bases.UndoingLeavesBase, Bases.WholeLeavesBase, Managers.ManagerFields, Openings.IsNew, Promises.KeepsPromises, Tolds.AreToldBy, Tolds.none_called, Undoings.AnswersWholeUndo, Wholes.AnswersWhole}
 
 -- the answer to a step, or to the last of several, as an event is told it
 abbrev pub told_of : Result Answer Refusal → Told

@@ -2,23 +2,13 @@
 use Rattle.std.specs.Prelude.{ℕ, ◌≡◌, ◌↔◌, List, [], ◌∷◌, ◌++◌, Option, None, Some, Contains, fold, is_some, unwrap_or}
 use Rattle.std.specs.Ordering.{nat_cmp}
 use Rattle.std.specs.FinMap as map
-use Rattle.mlt_types.specs.declared.cell.Cell.{Cell}
-use Rattle.mlt_types.specs.declared.cell.Cell.TheVariants.{Account, Element, Counter, Size}
-use Rattle.mlt_types.specs.Cells.{IsInRange, key_number}
-use Rattle.mlt_order.specs.Histories.{but_last}
-use Rattle.mlt_order.specs.Interleavings.{UndoneTo}
-use Rattle.mlt_order.specs.Runs.{IsSerialBase}
-use Rattle.mlt_order.specs.Tables.{table_with}
+use Rattle.mlt_types.specs.{declared.cell.Cell.Cell, declared.cell.Cell.TheVariants.Account, declared.cell.Cell.TheVariants.Element, declared.cell.Cell.TheVariants.Counter, declared.cell.Cell.TheVariants.Size, Cells.IsInRange, Cells.key_number}
+use Rattle.mlt_order.specs.{Histories.but_last, Interleavings.UndoneTo, Runs.IsSerialBase, Tables.table_with}
 use Rattle.mlt_object_kinds.specs.Bases.{Base, Step, account_at, counter_at, element_at, empty_base, size_at}
-use Rattle.mlt_object_kinds.specs.declared.operation.ObjOp.{ObjOp}
-use Rattle.mlt_object_kinds.specs.declared.operation.ObjReply.{ObjReply}
+use Rattle.mlt_object_kinds.specs.declared.operation.{ObjOp.ObjOp, ObjReply.ObjReply}
 use Rattle.mlt_trace.specs.declared.item.TraceItem.{TraceItem}
-use Rattle.mlt_page.specs.Values.{BucketFields}
-use Rattle.mlt_page.specs.declared.page.Page.{Page}
-use Rattle.mlt_page.specs.declared.page.Page.TheVariants.{Bucket}
-use Rattle.mlt_page.specs.declared.slot.Slot.TheVariants.{Live}
-use Rattle.mlt_manager.specs.Bases.{HasCleanPages}
-use Rattle.mlt_manager.specs.Managers.{ManagerFields}
+use Rattle.mlt_page.specs.{Values.BucketFields, declared.page.Page.Page, declared.page.Page.TheVariants.Bucket, declared.slot.Slot.TheVariants.Live}
+use Rattle.mlt_manager.specs.{Bases.HasCleanPages, Managers.ManagerFields}
 
 -- The transcript of a transaction: its operations that were not taken back, with their replies, in order. Those of the
 -- transactions that committed stand in the order of the commits, those of the open ones under their numbers.

@@ -1,20 +1,14 @@
 -- What a contract sees of a manager, and what is always true of it
 use Rattle.std.specs.Prelude.{ℕ, ◌≡◌, ◌<◌, ◌≤◌, ◌+◌, ◌^◌, refl}
-use Rattle.std.specs.Coded.{Coded, code_by, coded×, coded_ℕ}
-use Rattle.std.specs.Ordering.{nat_cmp}
+use Rattle.std.specs.{Coded.Coded, Coded.code_by, Coded.coded×, Coded.coded_ℕ, Ordering.nat_cmp}
 use Rattle.std.specs.FinMap as map
 use Rattle.std.specs.FinSet as set
 use Rattle.mlt_object_kinds.specs.Bases.{Base}
 use Rattle.mlt_trace.specs.Numbers.{commit_count}
 use Rattle.mlt_hash_form.specs.declared.root.Root.{Root}
 use Rattle.mlt_hash_access.specs.CleanPages.{RunningImages}
-use Rattle.mlt_tx.specs.declared.shared.SharedState.{SharedState}
-use Rattle.mlt_tx.specs.contracts.shared.SharedState.{the_row as shared_row}
-use Rattle.mlt_tx.specs.contracts.transaction.Transaction.{the_row as transaction_row}
-use Rattle.mlt_tx.specs.Tables.{Table}
-use Rattle.mlt_manager_invariant.specs.Sound.{IsSound}
-use Rattle.mlt_manager_invariant.specs.States.{State}
-use Rattle.mlt_manager_invariant.specs.Traced.{IsTraced}
+use Rattle.mlt_tx.specs.{declared.shared.SharedState.SharedState, contracts.shared.SharedState.the_row as shared_row, contracts.transaction.Transaction.the_row as transaction_row, Tables.Table}
+use Rattle.mlt_manager_invariant.specs.{Sound.IsSound, States.State, Traced.IsTraced}
 
 -- what contracts see of a manager
 pub record ManagerFields (P : Type 0) : Type 0 where

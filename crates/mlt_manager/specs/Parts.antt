@@ -1,11 +1,7 @@
 -- The parts of a manager, as a contract sees them
 use Rattle.std.specs.Prelude.{ℕ}
-use Rattle.mlt_tx.specs.Transactions.{IsPending}
-use Rattle.mlt_manager.specs.declared.parts.Parts.{Parts}
-use Rattle.mlt_manager.specs.declared.parts.TxStage.{TxStage}
-use Rattle.mlt_manager.specs.Answers.{IsIdleWith, IsNotOpen, IsOpenAt, IsUndoing}
-use Rattle.mlt_tx.specs.Tables.{Table}
-use Rattle.mlt_manager.specs.Managers.{ManagerFields}
+use Rattle.mlt_tx.specs.{Transactions.IsPending, Tables.Table}
+use Rattle.mlt_manager.specs.{declared.parts.Parts.Parts, declared.parts.TxStage.TxStage, Answers.IsIdleWith, Answers.IsNotOpen, Answers.IsOpenAt, Answers.IsUndoing, Managers.ManagerFields}
 
 -- a manager as contracts see it, of its parts
 abbrev pub fields_of : {P : Type 0} → Parts P → ManagerFields P

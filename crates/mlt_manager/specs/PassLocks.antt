@@ -1,32 +1,17 @@
 -- Which page locks a transaction holds between two events: those of its operation's pass, or none
 use Rattle.std.specs.Prelude.{ℕ, ◌≡◌, ◌≢◌, ◌⊎◌, ◌↔◌, true, false, is_some, unwrap_or, List, Option, None, Some, slice_index}
 use Rattle.std.specs.FinMap as map
-use Rattle.mlt_types.specs.declared.mode.Mode.{Mode}
-use Rattle.mlt_types.specs.declared.mode.Mode.TheVariants.{Exclusive}
-use Rattle.mlt_object_base.specs.declared.request.Request.{Request}
-use Rattle.mlt_object_base.specs.Requests.{target_of}
-use Rattle.mlt_page.specs.declared.page.Page.{Page}
-use Rattle.mlt_page.specs.Values.{HeadFields}
+use Rattle.mlt_types.specs.declared.mode.Mode.{Mode, TheVariants.Exclusive}
+use Rattle.mlt_object_base.specs.{declared.request.Request.Request, Requests.target_of}
+use Rattle.mlt_page.specs.{declared.page.Page.Page, Values.HeadFields}
 use Rattle.mlt_page_locks.specs.LockTables.{LockTable, Modes, is_holder, mode_held, pages_of}
 use Rattle.mlt_page_subtx.specs.Images.{Images, image_of}
-use Rattle.mlt_hash_form.specs.File.{FilePages, dir_of, row_of}
-use Rattle.mlt_hash_form.specs.Held.{over}
-use Rattle.mlt_hash_pair.specs.Pairs.{PairFields}
-use Rattle.mlt_hash_pair.specs.Descents.{IsLocked}
-use Rattle.mlt_hash_pair.specs.declared.descent.Descent.{Descent}
-use Rattle.mlt_hash.specs.Passes.{MayHoldMore, bucket_held, bucket_mode, directory_held}
-use Rattle.mlt_hash.specs.Passes.{directory_mode, header_held, header_mode}
-use Rattle.mlt_hash.specs.Walks.{WalkContext, WalkFields, context_by}
-use Rattle.mlt_hash.specs.declared.pass.Phase.{Phase}
-use Rattle.mlt_tx_two_records.specs.declared.two_records.TwoRecordWalk.{TwoRecordWalk}
-use Rattle.mlt_tx_two_records.specs.declared.two_records.TwoRecordWalk.TheVariants.{First, Owing, Wide}
-use Rattle.mlt_tx_two_records.specs.declared.two_records.WideStage.{WideStage}
-use Rattle.mlt_tx_two_records.specs.FirstPass.{HasKeys}
-use Rattle.mlt_tx_operation.specs.declared.access_path.AccessPath.{AccessPath}
-use Rattle.mlt_tx_operation.specs.declared.access_path.AccessPath.TheVariants.{One, Two}
-use Rattle.mlt_tx_operation.specs.Operating.{OperationFields}
-use Rattle.mlt_tx.specs.declared.transaction.At.{At}
-use Rattle.mlt_tx.specs.declared.transaction.Transaction.{Transaction}
+use Rattle.mlt_hash_form.specs.{File.FilePages, File.dir_of, File.row_of, Held.over}
+use Rattle.mlt_hash_pair.specs.{Pairs.PairFields, Descents.IsLocked, declared.descent.Descent.Descent}
+use Rattle.mlt_hash.specs.{Passes.MayHoldMore, Passes.bucket_held, Passes.bucket_mode, Passes.directory_held, Passes.directory_mode, Passes.header_held, Passes.header_mode, Walks.WalkContext, Walks.WalkFields, Walks.context_by, declared.pass.Phase.Phase}
+use Rattle.mlt_tx_two_records.specs.{declared.two_records.TwoRecordWalk.TwoRecordWalk, declared.two_records.TwoRecordWalk.TheVariants.First, declared.two_records.TwoRecordWalk.TheVariants.Owing, declared.two_records.TwoRecordWalk.TheVariants.Wide, declared.two_records.WideStage.WideStage, FirstPass.HasKeys}
+use Rattle.mlt_tx_operation.specs.{declared.access_path.AccessPath.AccessPath, declared.access_path.AccessPath.TheVariants.One, declared.access_path.AccessPath.TheVariants.Two, Operating.OperationFields}
+use Rattle.mlt_tx.specs.declared.transaction.{At.At, Transaction.Transaction}
 use Rattle.mlt_manager_invariant.specs.States.{images_kept}
 use Rattle.mlt_manager.specs.Managers.{ManagerFields}
 

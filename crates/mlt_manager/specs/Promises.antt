@@ -3,33 +3,20 @@ use Rattle.std.specs.Prelude.{ℕ, ◌≡◌, ◌↔◌, true, Some, is_some}
 use Rattle.std.specs.Ordering.{nat_cmp}
 use Rattle.std.specs.FinMap as map
 use Rattle.std.specs.FinSet as set
-use Rattle.mlt_types.specs.declared.cell.Cell.{Cell}
-use Rattle.mlt_types.specs.Cells.{IsInRange, key_number}
+use Rattle.mlt_types.specs.{declared.cell.Cell.Cell, Cells.IsInRange, Cells.key_number}
 use Rattle.mlt_page.specs.declared.page.Page.{Page}
-use Rattle.mlt_object_kinds.specs.Bases.{Base, Step, empty_base}
-use Rattle.mlt_object_kinds.specs.declared.operation.ObjOp.{ObjOp}
-use Rattle.mlt_object_kinds.specs.declared.operation.ObjReply.{ObjReply}
+use Rattle.mlt_object_kinds.specs.{Bases.Base, Bases.Step, Bases.empty_base, declared.operation.ObjOp.ObjOp, declared.operation.ObjReply.ObjReply}
 use Rattle.mlt_object_base.specs.Records.{IsRecord}
-use Rattle.mlt_order.specs.Histories.{Lists, lists_of}
-use Rattle.mlt_order.specs.Histories.Stage.{Running}
-use Rattle.mlt_order.specs.Interleavings.{UndoneTo, items_of}
-use Rattle.mlt_order.specs.Runs.{IsSerialBase}
-use Rattle.mlt_trace.specs.Entries.{entries_of}
-use Rattle.mlt_trace.specs.Numbers.{AreBegunInOrder, AreCounted, committed_txs}
+use Rattle.mlt_order.specs.{Histories.Lists, Histories.lists_of, Histories.Stage.Running, Interleavings.UndoneTo, Interleavings.items_of, Runs.IsSerialBase}
+use Rattle.mlt_trace.specs.{Entries.entries_of, Numbers.AreBegunInOrder, Numbers.AreCounted, Numbers.committed_txs, Items.trace_text}
 use Rattle.mlt_page_locks.specs.LockTables.{AreCompatible}
-use Rattle.mlt_hash_form.specs.Prefixes.{IsExtendibleHashFile}
-use Rattle.mlt_hash_form.specs.Records.{live_records}
-use Rattle.mlt_hash_ghosts.specs.Ghosts.{GhostsAreKept}
-use Rattle.mlt_hash_ghosts.specs.Ledgers.{Ledger}
-use Rattle.mlt_trace.specs.Items.{trace_text}
+use Rattle.mlt_hash_form.specs.{Prefixes.IsExtendibleHashFile, Records.live_records}
+use Rattle.mlt_hash_ghosts.specs.{Ghosts.GhostsAreKept, Ledgers.Ledger}
 use Rattle.mlt_trace_check.specs.Traces.{IsAcceptedTrace}
 use Rattle.mlt_tx.specs.declared.transaction.Transaction.{Transaction}
 use Rattle.mlt_tx_meaning.specs.Presences.{standing_of}
 use Rattle.mlt_manager_invariant.specs.States.{undoing_of}
-use Rattle.mlt_manager.specs.Bases.{HasBase}
-use Rattle.mlt_manager.specs.Headline.{KeepsMainPromise}
-use Rattle.mlt_manager.specs.Managers.{ManagerFields}
-use Rattle.mlt_manager.specs.PassLocks.{HoldsLocksOfItsPass}
+use Rattle.mlt_manager.specs.{Bases.HasBase, Headline.KeepsMainPromise, Managers.ManagerFields, PassLocks.HoldsLocksOfItsPass}
 
 -- what the history tells of: what was committed, in the order of the commits, and what stands of each open transaction
 abbrev pub lists_by : {P : Type 0} → ManagerFields P → Lists (ObjOp × ObjReply)

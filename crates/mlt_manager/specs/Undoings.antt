@@ -2,11 +2,8 @@
 use Rattle.std.specs.Prelude.{ℕ, ◌≡◌, Result, Ok, Err}
 use Rattle.mlt_types.specs.declared.refusal.Refusal.{Refusal}
 use Rattle.mlt_event.specs.declared.answer.Answer.{Answer}
-use Rattle.mlt_tx.specs.declared.transaction.At.{At}
-use Rattle.mlt_tx.specs.Tables.{Table}
-use Rattle.mlt_manager.specs.Answers.{IsNotOpen, IsOpenAt, IsUndoing}
-use Rattle.mlt_manager.specs.Chains.{StepsUpTo}
-use Rattle.mlt_manager.specs.Managers.{ManagerFields}
+use Rattle.mlt_tx.specs.{declared.transaction.At.At, Tables.Table}
+use Rattle.mlt_manager.specs.{Answers.IsNotOpen, Answers.IsOpenAt, Answers.IsUndoing, Chains.StepsUpTo, Managers.ManagerFields}
 
 -- an abort goes on, with the same inverse or with the next one
 abbrev pub GoesOnBack : Answer → Type 0

@@ -3,11 +3,8 @@ use Rattle.std.specs.Prelude.{ℕ, ◌≡◌, Result, Ok, Err}
 use Rattle.mlt_types.specs.declared.refusal.Refusal.{Refusal}
 use Rattle.mlt_object_kinds.specs.declared.operation.ObjOp.{ObjOp}
 use Rattle.mlt_event.specs.declared.answer.Answer.{Answer}
-use Rattle.mlt_tx.specs.Transactions.{IsPending}
-use Rattle.mlt_tx.specs.Tables.{CancelsOne}
-use Rattle.mlt_manager.specs.Answers.{AnswersCall, ChangesOpen, HasCalled, IsOpenAt}
-use Rattle.mlt_manager.specs.Chains.{StepsUpTo}
-use Rattle.mlt_manager.specs.Managers.{ManagerFields}
+use Rattle.mlt_tx.specs.{Transactions.IsPending, Tables.CancelsOne}
+use Rattle.mlt_manager.specs.{Answers.AnswersCall, Answers.ChangesOpen, Answers.HasCalled, Answers.IsOpenAt, Chains.StepsUpTo, Managers.ManagerFields}
 
 -- an operation goes on
 abbrev pub LetsGoOn : Answer → Type 0

@@ -4,16 +4,10 @@ use Rattle.std.specs.FinMap as map
 use Rattle.std.specs.FinSet as set
 use Rattle.mlt_manager_invariant.proofs.Names.{cases_eq, none-some, Page, Base, Step, ObjOp, ObjReply, Entry, Lists, after_entry, but_last, lists_of, no_lists, TookBack, items_of, SameElsewhere, after_entries-push, but_last-push, changed, Locks, SameReservations, is_of_other, reservation_of, TraceItem, entries_of, ItemsWithRoom, CountsFrom, begun_txs, commit_numbers, total_room, entries_of-append, no_begin, no_commit, total_room-remove, clean_pages, view_of, KeepsRunning, after_close, clean_of, local_of, close_clean, close_keeps, PagesMeanHistory, lists_in, same_pages_match, no_more_by_end, OperationFields, Answer, SharedState, Transaction, Fits, IsSound, State, all_of, images_kept, is_undoing_at, room_of, undoing_of, abstract_state_of, LedBack, TakesLastBack}
 use Rattle.mlt_order.specs.Histories.Entry.{Closed}
-use Rattle.mlt_tx_meaning.specs.Events.{with_closed, with_undone as state_undone}
-use Rattle.mlt_tx_meaning.proofs.OpenNumbers.{removed_beside, removed_here as closed_here}
-use Rattle.mlt_tx_meaning.proofs.Transactions.{close_keeps as close_keeps_match}
+use Rattle.mlt_tx_meaning.{specs.Events.with_closed, specs.Events.with_undone as state_undone, proofs.OpenNumbers.removed_beside, proofs.OpenNumbers.removed_here as closed_here, proofs.Transactions.close_keeps as close_keeps_match}
 use Rattle.mlt_tx.specs.Steps.{TakesLast}
-use Rattle.mlt_manager_invariant.specs.Undoing.{with_aborted}
-use Rattle.mlt_manager_invariant.proofs.Closing.{all_of_others, nothing_of, one_after_another}
-use Rattle.mlt_manager_invariant.proofs.InverseEnds.{cleared}
+use Rattle.mlt_manager_invariant.{specs.Undoing.with_aborted, proofs.Closing.all_of_others, proofs.Closing.nothing_of, proofs.Closing.one_after_another, proofs.InverseEnds.cleared, proofs.Openness.agrees_in, proofs.Openness.keeps_fewer, proofs.Openness.active_fits, proofs.Tables.removed_elsewhere, proofs.Tables.removed_here, proofs.Tables.removed_inserted}
 use Rattle.mlt_manager_invariant.proofs.LastBack.{IsLeft, led_back, left, may_undo, pages_now, room_before}
-use Rattle.mlt_manager_invariant.proofs.Openness.{agrees_in, keeps_fewer, active_fits}
-use Rattle.mlt_manager_invariant.proofs.Tables.{removed_elsewhere, removed_here, removed_inserted}
 
 module _ (s : State) (i : ℕ) (inverting : Option OperationFields) (before after : Transaction) (shared : SharedState)
     (sound : IsSound s) (was : map.get s.txs i ≡ Some before) (takes : TakesLastBack s inverting before after shared Answer.Aborted) where

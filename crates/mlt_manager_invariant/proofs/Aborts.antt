@@ -4,9 +4,7 @@ use Rattle.std.specs.FinMap as map
 use Rattle.std.specs.FinSet as set
 use Rattle.mlt_manager_invariant.proofs.Names.{total_room, cases_eq, ObjOp, ObjReply, total_room-insert, HoldsNothing, KeepsRunning, Undo, PagesMeanHistory, Running, At, Transaction, with_transaction, Fits, FitsAt, IsSound, State, all_of, images_kept, is_undoing, is_undoing_at, pending_room, room_of, undoing_of, abstract_state_of}
 use Rattle.mlt_tx_meaning.proofs.Transactions.{abort_keeps}
-use Rattle.mlt_manager_invariant.specs.Transactions.{BeginsAbort}
-use Rattle.mlt_manager_invariant.proofs.Others.{still_fits}
-use Rattle.mlt_manager_invariant.proofs.Tables.{fits_after, inserted_elsewhere, inserted_here, opened_after}
+use Rattle.mlt_manager_invariant.{specs.Transactions.BeginsAbort, proofs.Others.still_fits, proofs.Tables.fits_after, proofs.Tables.inserted_elsewhere, proofs.Tables.inserted_here, proofs.Tables.opened_after}
 
 module _ (s : State) (i : ℕ) (before after : Transaction) (sound : IsSound s) (was : map.get s.txs i ≡ Some before) (k : BeginsAbort before after) where
   abbrev now : State

@@ -4,20 +4,13 @@ use Rattle.std.specs.FinMap as map
 use Rattle.std.specs.FinSet as set
 use Rattle.mlt_manager_invariant.proofs.Names.{cases_eq, false≢true, ObjOp, ObjReply, Entry, Lists, after_entry, lists_of, no_lists, items_of, after_entries-push, TraceItem, Locks, reservation_of, entries_of, AreBegunInOrder, AreCounted, CountsFrom, begin_count, entries_of-append, no_commit, Running, LockedStore, clean_pages, view_of, AllRunning, HoldsNothing, KeepsRunning, clean_of, is_open, local_of, PagesMeanHistory, lists_in, same_pages_match, SharedState, At, Transaction, Fits, FitsAt, IsSound, State, all_of, images_kept, is_undoing_at, pending_room, room_of, undoing_of, abstract_state_of}
 use Rattle.mlt_order.specs.Histories.Entry.{Begun}
-use Rattle.mlt_trace.proofs.ItemLaws.{begin_keeps_order, begins_counted}
-use Rattle.mlt_trace.proofs.RoomLaws.{total_room-insert_new}
+use Rattle.mlt_trace.proofs.{ItemLaws.begin_keeps_order, ItemLaws.begins_counted, RoomLaws.total_room-insert_new}
 use Rattle.mlt_page_subtx.proofs.ImageLaws.{not_there, not_true}
-use Rattle.mlt_hash_access.specs.Running.{after_begin}
-use Rattle.mlt_hash_access.proofs.AllEvents.{begin_clean, begin_keeps, nothing_at_begin}
-use Rattle.mlt_tx_meaning.specs.Events.{with_begun}
+use Rattle.mlt_hash_access.{specs.Running.after_begin, proofs.AllEvents.begin_clean, proofs.AllEvents.begin_keeps, proofs.AllEvents.nothing_at_begin}
+use Rattle.mlt_tx_meaning.{specs.Events.with_begun, proofs.Matches.lists_kept, proofs.Walks.no_more_by_begin}
 use Rattle.mlt_tx_meaning.proofs.OpenNumbers as numbers
 use Rattle.mlt_tx_meaning.proofs.Transactions as meeting
-use Rattle.mlt_tx_meaning.proofs.Matches.{lists_kept}
-use Rattle.mlt_tx_meaning.proofs.Walks.{no_more_by_begin}
-use Rattle.mlt_manager_invariant.specs.Transactions.{Begins, with_next}
-use Rattle.mlt_manager_invariant.proofs.Lengths.{as_many_images}
-use Rattle.mlt_manager_invariant.proofs.Openness.{agrees_in, keeps_fewer, active_fits}
-use Rattle.mlt_manager_invariant.proofs.Tables.{fits_after, inserted_elsewhere, inserted_here}
+use Rattle.mlt_manager_invariant.{specs.Transactions.Begins, specs.Transactions.with_next, proofs.Lengths.as_many_images, proofs.Openness.agrees_in, proofs.Openness.keeps_fewer, proofs.Openness.active_fits, proofs.Tables.fits_after, proofs.Tables.inserted_elsewhere, proofs.Tables.inserted_here}
 
 module _ (s : State) (t : Transaction) (shared : SharedState) (sound : IsSound s) (few : map.len s.txs < s.shared.pages.locks.max_open) (k : Begins s t shared) where
   abbrev i : ℕ

@@ -3,12 +3,7 @@ use Rattle.std.proofs.Common.{◌≡◌, ℕ, length, Some, refl, sym, ap, subst
 use Rattle.std.specs.FinMap as map
 use Rattle.mlt_manager_invariant.proofs.Names.{released, ItemsWithRoom, Running, put_back, started, Undo, LockedStore, LocalState, view_of, AllRunning, HoldsNothing, KeepsRunning, after_roll_back, clean_of, images_by, local_of, nothing_after_roll_back, context_of, IsOperating, OperationFields, started_for, Do, starts, SharedState, At, Transaction, KeepsCleanPages, with_transaction, FitsAt, HasPending, IsSound, State, all_of, images_kept, is_undoing, pending_room, abstract_state_of}
 use Rattle.mlt_tx.specs.Transactions.{TellsOfCancel}
-use Rattle.mlt_manager_invariant.specs.Events.{Calls}
-use Rattle.mlt_manager_invariant.proofs.MaySteps.{is_open_now, same_local, unheld}
-use Rattle.mlt_manager_invariant.proofs.Pending.{back_to}
-use Rattle.mlt_manager_invariant.proofs.Stays.{stays_sound}
-use Rattle.mlt_manager_invariant.proofs.Turned.{rolled_back}
-use Rattle.mlt_manager_invariant.proofs.Turning.{sound_after}
+use Rattle.mlt_manager_invariant.{specs.Events.Calls, proofs.MaySteps.is_open_now, proofs.MaySteps.same_local, proofs.MaySteps.unheld, proofs.Pending.back_to, proofs.Stays.stays_sound, proofs.Turned.rolled_back, proofs.Turning.sound_after}
 
 -- **A call keeps all that is always true.**
 pub called_sound : (s : State) (i : ℕ) (before after : Transaction) (shared : SharedState) → IsSound s → map.get s.txs i ≡ Some before → Calls s i before after shared → IsSound (with_transaction s i after shared s.images)

@@ -2,15 +2,9 @@
 use Rattle.std.proofs.Common.{◌≡◌, ◌≢◌, ℕ, ◌+◌, Bool, true, false, List, [], ◌∷◌, ◌++◌, length, Option, Some, is_some, refl, sym, ap, subst, ◌∙◌, inl, inr, arith, nat_cmp, length-append, Contains}
 use Rattle.std.specs.FinMap as map
 use Rattle.mlt_manager_invariant.proofs.Names.{cases_eq, Base, Step, ObjOp, ObjReply, Page, released, Entry, Lists, after_entry, lists_of, no_lists, items_of, after_entries-push, Held, HoldsClash, SameReservations, TraceItem, entries_of, AreBegunInOrder, AreCounted, CountsFrom, begin_count, entries_of-append, no_begin, no_commit, total_room-insert, Running, view_of, AllRunning, HoldsNothing, KeepsRunning, after_end, clean_of, is_open, local_of, clean_pages, clashes, agrees_with_each, end_clean, end_keeps, nothing_at_end, EndsWith, sees_held_alone, IsOpInRange, PagesMeanHistory, lists_in, Do, OperationFields, SharedState, At, Transaction, Fits, FitsAt, HasPending, IsSound, State, all_of, images_kept, is_undoing, is_undoing_at, pending_room, room_of, undoing_of, abstract_state_of}
-use Rattle.mlt_order.specs.Histories.Entry.{Did}
-use Rattle.mlt_order.proofs.Tables.{with_entry-other, with_entry-same}
-use Rattle.mlt_tx_meaning.specs.Events.{MayDo, with_done}
-use Rattle.mlt_tx_meaning.proofs.Operations.{operation_keeps}
-use Rattle.mlt_manager_invariant.specs.Events.{EndsPending, with_end}
-use Rattle.mlt_manager_invariant.proofs.Found.{IsAnswered, is_answered}
-use Rattle.mlt_manager_invariant.proofs.Grants.{granted_elsewhere, granted_here, nothing_clashes}
-use Rattle.mlt_manager_invariant.proofs.Others.{still_fits}
-use Rattle.mlt_manager_invariant.proofs.Tables.{fits_after, kept_after, opened_after, same_undoing}
+use Rattle.mlt_order.{specs.Histories.Entry.Did, proofs.Tables.with_entry-other, proofs.Tables.with_entry-same}
+use Rattle.mlt_tx_meaning.{specs.Events.MayDo, specs.Events.with_done, proofs.Operations.operation_keeps}
+use Rattle.mlt_manager_invariant.{specs.Events.EndsPending, specs.Events.with_end, proofs.Found.IsAnswered, proofs.Found.is_answered, proofs.Grants.granted_elsewhere, proofs.Grants.granted_here, proofs.Grants.nothing_clashes, proofs.Others.still_fits, proofs.Tables.fits_after, proofs.Tables.kept_after, proofs.Tables.opened_after, proofs.Tables.same_undoing}
 
 module _ (s : State) (i : ℕ) (o : OperationFields) (before after : Transaction) (shared : SharedState) (told : ObjReply)
     (sound : IsSound s) (was : map.get s.txs i ≡ Some before) (e : EndsPending s i o before after shared told) where

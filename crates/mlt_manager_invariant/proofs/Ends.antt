@@ -4,16 +4,11 @@ use Rattle.std.specs.FinMap as map
 use Rattle.std.specs.FinSet as set
 use Rattle.mlt_manager_invariant.proofs.Names.{cases_eq, ObjOp, ObjReply, Entry, Lists, after_entry, lists_of, no_lists, items_of, SameElsewhere, after_entries-push, changed, TraceItem, is_of_other, entries_of, AreCounted, CountsFrom, begun_txs, entries_of-append, no_begin, no_commit, total_room-remove, LockedStore, clean_pages, view_of, AllRunning, HoldsNothing, KeepsRunning, after_close, clean_of, local_of, close_clean, close_keeps, PagesMeanHistory, AbstractState, lists_in, same_pages_match, no_more_by_end, SharedState, At, Transaction, Fits, FitsAt, IsSound, State, all_of, images_kept, is_undoing_at, room_of, undoing_of, abstract_state_of}
 use Rattle.mlt_order.specs.Tables.{table_with}
-use Rattle.mlt_trace.specs.Entries.{entry_of}
-use Rattle.mlt_trace.specs.Numbers.{commit_count}
-use Rattle.mlt_trace.proofs.ItemLaws.{commit_keeps_counted}
+use Rattle.mlt_trace.{specs.Entries.entry_of, specs.Numbers.commit_count, proofs.ItemLaws.commit_keeps_counted}
 use Rattle.mlt_tx_meaning.specs.Events.{IsOpenAt}
 use Rattle.mlt_tx_meaning.proofs.OpenNumbers as numbers
 use Rattle.mlt_tx_meaning.proofs.Transactions as meeting
-use Rattle.mlt_manager_invariant.specs.Transactions.{Ends, without_transaction}
-use Rattle.mlt_manager_invariant.proofs.Closing.{all_of_others, nothing_of}
-use Rattle.mlt_manager_invariant.proofs.Openness.{agrees_in, keeps_fewer, active_fits}
-use Rattle.mlt_manager_invariant.proofs.Tables.{removed_elsewhere, removed_here}
+use Rattle.mlt_manager_invariant.{specs.Transactions.Ends, specs.Transactions.without_transaction, proofs.Closing.all_of_others, proofs.Closing.nothing_of, proofs.Openness.agrees_in, proofs.Openness.keeps_fewer, proofs.Openness.active_fits, proofs.Tables.removed_elsewhere, proofs.Tables.removed_here}
 
 -- the abstract state in which transaction i is open no more, and that has this entry of it
 abbrev ended_state : State → ℕ → Entry (ObjOp × ObjReply) → AbstractState

@@ -2,14 +2,10 @@
 use Rattle.std.proofs.Common.{◌≡◌, ℕ, None, Option, Some, refl, sym, ap, subst, ◌∙◌, nat_cmp}
 use Rattle.std.specs.FinMap as map
 use Rattle.mlt_manager_invariant.proofs.Names.{none-some, IsInRange, Mode, Page, ObjOp, ObjReply, cell_of, RecChange, Request, Do, changes_on, own_change_on, decision, size_key_of, target_of, Agrees, View, HasRead, Stands, WalkFields, Phase, leaves_as_told, IsTold, LeavesAsTold, Performs, TwoRecordWalk, AccessPath, One, Two, IsOperating, OperatesBy, OperationFields, StandsOrTold, FitsPhase, IsWalking, walking, ChangesPages, EndsWith, PagesMeanHistory, AbstractState, context_of, walk_leaves_change, found_is_record}
-use Rattle.mlt_object_base.specs.Effects.{reply_of}
-use Rattle.mlt_object_base.specs.Meaning.{changes_of, size_record_in, told_by}
-use Rattle.mlt_hash_form.specs.Held.{own_or_clean}
-use Rattle.mlt_hash_form.specs.Records.{live_records}
+use Rattle.mlt_object_base.specs.{Effects.reply_of, Meaning.changes_of, Meaning.size_record_in, Meaning.told_by}
+use Rattle.mlt_hash_form.specs.{Held.own_or_clean, Records.live_records}
 use Rattle.mlt_hash.proofs.Passed.{read_at_bucket}
-use Rattle.mlt_tx_meaning.specs.Presences.{op_key}
-use Rattle.mlt_tx_meaning.specs.AbstractStates.{record_of}
-use Rattle.mlt_tx_meaning.proofs.TwoEnds.{done_leaves}
+use Rattle.mlt_tx_meaning.{specs.Presences.op_key, specs.AbstractStates.record_of, proofs.TwoEnds.done_leaves}
 use Rattle.mlt_manager_invariant.proofs.OneChange.{no_size_change, own_alone}
 
 -- the operation is told what the records ask for, and makes the changes that go with it

@@ -2,9 +2,7 @@
 use Rattle.std.proofs.Common.{◌≡◌, ◌≢◌, ℕ, Bool, true, false, List, [], ◌∷◌, ◌++◌, refl, sym, ap, subst, ◌∙◌, inl, inr, arith, Contains}
 use Rattle.mlt_manager_invariant.proofs.Names.{cases_eq, Contains-append_right, ObjOp, ObjReply, items_of, clashes, Held, HoldsClash}
 use Rattle.std.proofs.lemmas.List.Elements.{Contains-append_cases}
-use Rattle.mlt_order.proofs.RunLemmas.{contains-nothing}
-use Rattle.mlt_order.proofs.Parts.{items_of-append, items_of-other, items_of-same}
-use Rattle.mlt_order.proofs.Stages.{contains-one}
+use Rattle.mlt_order.proofs.{RunLemmas.contains-nothing, Parts.items_of-append, Parts.items_of-other, Parts.items_of-same, Stages.contains-one}
 
 first_item : {A : Type 0} (e x : A) (es : List A) → e ≡ x → Contains (e ∷ es) x
 first_item e x es is = (0, omega arith, is)

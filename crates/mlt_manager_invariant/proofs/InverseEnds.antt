@@ -3,14 +3,11 @@ use Rattle.std.proofs.Common.{◌≡◌, ℕ, [], Option, None, Some, IsSome, is
 use Rattle.mlt_manager_invariant.proofs.Names.{cases_eq, false≢true, IsInRange, Mode, Page, ObjOp, ObjReply, cell_of, RecChange, Request, TakeBack, inverse_of, changes_on, decision, size_key_of, target_of, same_entries, released, Running, Agrees, View, view_of, WalkContext, HasRead, Stands, WalkFields, Phase, leaves_as_told, IsTold, LeavesAsTold, Performs, TwoRecordWalk, AccessPath, One, Two, OperatesBy, OperationFields, StandsOrTold, FitsPhase, IsWalking, walking, clean_pages, AllRunning, HoldsNothing, KeepsRunning, after_end, clean_of, is_open, local_of, end_clean, end_keeps, nothing_at_end, agrees_with_each, ChangesPages, EndsWith, context_of, sees_held_alone, walk_leaves_change, found_is_record, SharedState, Transaction, HasInverse, IsSound, State, all_of, images_kept, abstract_state_of}
 use Rattle.std.specs.FinMap as map
 use Rattle.mlt_object_base.specs.Meaning.{changes_back}
-use Rattle.mlt_hash.specs.Walks.{IsChanged}
-use Rattle.mlt_hash.specs.declared.pass.Change.{Change}
+use Rattle.mlt_hash.specs.{Walks.IsChanged, declared.pass.Change.Change}
 use Rattle.mlt_tx_operation.specs.Walking.{WalkingFields}
-use Rattle.mlt_tx_meaning.specs.Ends.{LeavesChange}
-use Rattle.mlt_tx_meaning.proofs.TwoEnds.{undone_leaves}
+use Rattle.mlt_tx_meaning.{specs.Ends.LeavesChange, proofs.TwoEnds.undone_leaves}
 use Rattle.mlt_tx.specs.Endings.{EndsSubtx}
-use Rattle.mlt_manager_invariant.proofs.OneChange.{no_inverse_no_size, no_size_inverse, own_alone}
-use Rattle.mlt_manager_invariant.proofs.Tables.{inserted_elsewhere, inserted_here}
+use Rattle.mlt_manager_invariant.proofs.{OneChange.no_inverse_no_size, OneChange.no_size_inverse, OneChange.own_alone, Tables.inserted_elsewhere, Tables.inserted_here}
 
 -- an inverse on one record has made its change, at its end
 record HasChanged (context : WalkContext) (o : WalkingFields) (view : View) (item : ObjOp × ObjReply) : Type 0 where

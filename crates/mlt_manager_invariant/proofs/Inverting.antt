@@ -4,10 +4,8 @@ use Rattle.std.specs.FinMap as map
 use Rattle.mlt_manager_invariant.proofs.Names.{ObjOp, ObjReply, inverse_of, ItemsWithRoom, Undo, LocalState, local, view_of, AllRunning, local_of, context_of, TakeBack, starts, IsOperating, OperationFields, Answer, SharedState, At, Transaction, KeepsCleanPages, with_transaction, FitsAt, HasInverse, IsSound, State, all_of, is_undoing, pending_room, room_of, abstract_state_of}
 use Rattle.mlt_order.proofs.Growing.{one_last}
 use Rattle.mlt_tx_operation.specs.Answers.{StepsOn, Waits}
-use Rattle.mlt_tx.specs.Steps.{InverseSteps, inverse_from}
-use Rattle.mlt_tx.specs.Transactions.{StepsBack}
-use Rattle.mlt_manager_invariant.proofs.MaySteps.{last_in_range, same_local, unheld}
-use Rattle.mlt_manager_invariant.proofs.Turning.{local_now, sound_after, stays_all, turns_all}
+use Rattle.mlt_tx.specs.{Steps.InverseSteps, Steps.inverse_from, Transactions.StepsBack}
+use Rattle.mlt_manager_invariant.proofs.{MaySteps.last_in_range, MaySteps.same_local, MaySteps.unheld, Turning.local_now, Turning.sound_after, Turning.stays_all, Turning.turns_all}
 
 module _ (s : State) (i : ℕ) (inverting next : Option OperationFields) (before after : Transaction) (shared : SharedState)
     (sound : IsSound s) (was : map.get s.txs i ≡ Some before) (back_at : before.at ≡ At.Undoing inverting) (now_at : after.at ≡ At.Undoing next) where

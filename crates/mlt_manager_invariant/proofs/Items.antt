@@ -2,18 +2,11 @@
 use Rattle.std.proofs.Common.{◌≡◌, ◌≢◌, ℕ, ◌+◌, List, [], ◌∷◌, ◌++◌, true, false, Option, None, Some, refl, sym, ap, subst, ◌∙◌, append_assoc}
 use Rattle.std.specs.FinMap as map
 use Rattle.mlt_manager_invariant.proofs.Names.{Base, ObjOp, ObjReply, TraceItem, ItemsWithRoom, commit_count, ArePlaced, HasPlace, IsWhole, told, whole_more, OperationFields, Answer, tx_state_of, SharedState, Transaction, IsSound, State, is_undoing, IsTraced}
-use Rattle.mlt_order.specs.Histories.{Lists, but_last}
-use Rattle.mlt_order.proofs.Growing.{but_last-push}
-use Rattle.mlt_order.proofs.Tables.{changed}
-use Rattle.mlt_trace_check.proofs.Progressing.{placed_more}
-use Rattle.mlt_trace_check.proofs.Growing.{told-push}
-use Rattle.mlt_trace_check.proofs.Places.{whole_begin}
+use Rattle.mlt_order.{specs.Histories.Lists, specs.Histories.but_last, proofs.Growing.but_last-push, proofs.Tables.changed}
+use Rattle.mlt_trace_check.proofs.{Progressing.placed_more, Growing.told-push, Places.whole_begin}
 use Rattle.mlt_tx.specs.Steps.{EndsBack}
-use Rattle.mlt_manager_invariant.specs.Events.{EndsPending, with_end}
-use Rattle.mlt_manager_invariant.specs.Transactions.{Begins, Ends, with_next, without_transaction}
-use Rattle.mlt_manager_invariant.specs.Undoing.{TakesLastBack, with_aborted, with_undone}
+use Rattle.mlt_manager_invariant.{specs.Events.EndsPending, specs.Events.with_end, specs.Transactions.Begins, specs.Transactions.Ends, specs.Transactions.with_next, specs.Transactions.without_transaction, specs.Undoing.TakesLastBack, specs.Undoing.with_aborted, specs.Undoing.with_undone, proofs.Wholes.others_more, proofs.Wholes.others_of, proofs.Wholes.whole_with, proofs.Wholes.whole_without}
 use Rattle.mlt_manager_invariant.proofs.Places.{back_place, begin_place, close_place, commit_place, done_place}
-use Rattle.mlt_manager_invariant.proofs.Wholes.{others_more, others_of, whole_with, whole_without}
 
 placed_as : (items new : List TraceItem) (item : TraceItem) → new ≡ items ++ item ∷ [] → ArePlaced items → HasPlace items item → ArePlaced new
 placed_as items new item is placed place = subst ArePlaced (sym is) (placed_more items item placed place)

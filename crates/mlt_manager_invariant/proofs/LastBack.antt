@@ -2,11 +2,9 @@
 use Rattle.std.proofs.Common.{◌≡◌, ℕ, ◌+◌, ◌∷◌, [], Option, None, Some, length, is_some, refl, sym, ap, subst, ◌∙◌, arith, length-append, nat_cmp}
 use Rattle.std.specs.FinMap as map
 use Rattle.mlt_manager_invariant.proofs.Names.{IsInRange, Page, Base, Step, ObjOp, ObjReply, cell_of, Running, clean_pages, MayUndo, PagesMeanHistory, OperationFields, Answer, SharedState, At, Transaction, FitsAt, IsSound, State, images_kept, is_undoing, is_undoing_at, pending_room, room_of, abstract_state_of, TakesLastBack}
-use Rattle.mlt_tx_meaning.specs.Events.{with_undone}
-use Rattle.mlt_tx_meaning.proofs.Undoing.{undoing_keeps, undone_in_range}
+use Rattle.mlt_tx_meaning.{specs.Events.with_undone, proofs.Undoing.undoing_keeps, proofs.Undoing.undone_in_range}
 use Rattle.mlt_hash_access.proofs.Rebased.{same_some}
-use Rattle.mlt_tx.specs.Steps.{TakesOff}
-use Rattle.mlt_tx.proofs.Backing.{one_last}
+use Rattle.mlt_tx.{specs.Steps.TakesOff, proofs.Backing.one_last}
 use Rattle.mlt_manager_invariant.proofs.InverseEnds.{IsCleared, cleared_by_inverse, cleared_without}
 
 -- the transaction holds nothing, and nothing but the pages has changed

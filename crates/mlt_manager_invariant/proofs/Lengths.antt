@@ -2,8 +2,7 @@
 use Prim.Native.Nat.{zero}
 use Rattle.std.proofs.Common.{◌≡◌, ℕ, suc, List, [], ◌∷◌, length, Option, None, Some, is_some, true, refl, sym, ap, ◌∙◌, arith, nat_cmp}
 use Rattle.std.specs.FinMap as map
-use Rattle.std.specs.FinMap.Entries.{find}
-use Rattle.std.specs.Cmp.{nat_cmp_total, unsigned_tied}
+use Rattle.std.specs.{FinMap.Entries.find, Cmp.nat_cmp_total, Cmp.unsigned_tied}
 use Rattle.mlt_manager_invariant.proofs.Names.{false≢true, nat_tests, get_removed, Transaction, IsSound, State, images_kept}
 
 abbrev HasNumber : {X : Type 0} → map.FinMap nat_cmp X → ℕ → Type 0

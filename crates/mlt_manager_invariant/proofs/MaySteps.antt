@@ -7,11 +7,8 @@ use Rattle.mlt_page_locks.specs.LockTables.{Modes, pages_of}
 use Rattle.mlt_page_subtx.specs.Images.{AreThere}
 use Rattle.mlt_hash_access.proofs.AllRunning.{clean_for_each, each_may_step}
 use Rattle.mlt_tx_operation.specs.Operating.{CanDo, CanDoBy, MayOperate}
-use Rattle.mlt_tx_meaning.proofs.Matches.{in_range_there}
-use Rattle.mlt_tx_meaning.proofs.TwoEnds.{can_do_both, can_take_back_both}
-use Rattle.mlt_tx_meaning.proofs.Walks.{undone_is_there}
-use Rattle.mlt_tx.specs.Steps.{IsInverting, MayStepBack, MayStepOn}
-use Rattle.mlt_tx.specs.Transactions.{MayStepAt, MayStepIn}
+use Rattle.mlt_tx_meaning.proofs.{Matches.in_range_there, TwoEnds.can_do_both, TwoEnds.can_take_back_both, Walks.undone_is_there}
+use Rattle.mlt_tx.specs.{Steps.IsInverting, Steps.MayStepBack, Steps.MayStepOn, Transactions.MayStepAt, Transactions.MayStepIn}
 
 -- a list that is not empty has a last item
 pub last_of_some : {A : Type 0} (xs : List A) → (xs ≡ [] → ⊥) → (front : List A) × (last : A) × (xs ≡ front ++ last ∷ [])

@@ -1,15 +1,10 @@
 -- Slots are copied one after another.
 use Rattle.std.proofs.Common.{◌≡◌, ◌⊎◌, ℕ, ◌+◌, ◌<◌, List, [], ◌∷◌, ◌++◌, length, take, get_or, Contains, Some, None, sym, ap, subst, ◌∙◌, inl, inr, arith}
-use Rattle.std.proofs.lemmas.List.{take_more}
-use Rattle.std.proofs.lemmas.List.Elements.{Contains-push, Contains-push_cases}
-use Rattle.mlt_types.specs.declared.cell.Cell.{Cell}
-use Rattle.mlt_types.specs.Cells.{IsInRange, key_number}
-use Rattle.mlt_object_kinds.specs.Bases.{Base, SameBut, state_at}
-use Rattle.mlt_object_kinds.proofs.BaseLaws.{one_cell_or_two}
-use Rattle.mlt_object_base.specs.Records.{IsRecord, state_of_record}
-use Rattle.mlt_object_base.proofs.Meanings.{same_cell}
-use Rattle.mlt_page.specs.declared.slot.Slot.{Slot}
-use Rattle.mlt_page.specs.declared.slot.Slot.TheVariants.{Live}
+use Rattle.std.proofs.lemmas.List.{take_more, Elements.Contains-push, Elements.Contains-push_cases}
+use Rattle.mlt_types.specs.{declared.cell.Cell.Cell, Cells.IsInRange, Cells.key_number}
+use Rattle.mlt_object_kinds.{specs.Bases.Base, specs.Bases.SameBut, specs.Bases.state_at, proofs.BaseLaws.one_cell_or_two}
+use Rattle.mlt_object_base.{specs.Records.IsRecord, specs.Records.state_of_record, proofs.Meanings.same_cell}
+use Rattle.mlt_page.specs.declared.slot.Slot.{Slot, TheVariants.Live}
 use Rattle.mlt_manager_invariant.specs.Copies.{AreSlotsOf, CopiesSlots, IsPartOf}
 
 -- ---- one slot

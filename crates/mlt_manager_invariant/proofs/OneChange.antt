@@ -1,8 +1,7 @@
 -- An operation on one record changes no size
 use Rattle.std.proofs.Common.{◌≡◌, ℕ, [], ◌++◌, Option, None, refl, ap, ◌∙◌, append-nil}
-use Rattle.mlt_object_kinds.specs.declared.element.ElementOp.{ElementOp}
+use Rattle.mlt_object_kinds.specs.declared.{element.ElementOp.ElementOp, operation.ObjOp.TheVariants.Account, operation.ObjOp.TheVariants.Element, operation.ObjOp.TheVariants.Counter, operation.ObjOp.TheVariants.Size}
 use Rattle.mlt_manager_invariant.proofs.Names.{ObjOp, ObjReply, RecChange, Do, TakeBack, changes_on, inverse_of, own_change_on, size_key_of}
-use Rattle.mlt_object_kinds.specs.declared.operation.ObjOp.TheVariants.{Account, Element, Counter, Size}
 use Rattle.mlt_object_base.specs.Effects.{size_change_of, size_change_on, size_inverse_of}
 
 none_of_size : (op : ObjOp) → size_change_on op None ≡ []

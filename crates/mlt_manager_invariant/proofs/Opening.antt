@@ -6,12 +6,9 @@ use Rattle.mlt_manager_invariant.proofs.Names.{none-some, ObjOp, ObjReply, Page,
 use Rattle.mlt_page_locks.specs.LockTables.{no_locks}
 use Rattle.mlt_object_locks.specs.Locks as objects
 use Rattle.mlt_trace.proofs.RoomLaws.{total_room-empty}
-use Rattle.mlt_hash_form.specs.Changes.{IsOpening}
-use Rattle.mlt_hash_form.specs.File.{GivesPseudokeys}
-use Rattle.mlt_hash_access.specs.Running.{nobody_running}
-use Rattle.mlt_hash_access.proofs.AllRunning.{first_clean, first_may_step}
-use Rattle.mlt_tx_meaning.specs.Events.{new_state}
-use Rattle.mlt_tx_meaning.proofs.Opening.{opening_matches}
+use Rattle.mlt_hash_form.specs.{Changes.IsOpening, File.GivesPseudokeys}
+use Rattle.mlt_hash_access.{specs.Running.nobody_running, proofs.AllRunning.first_clean, proofs.AllRunning.first_may_step}
+use Rattle.mlt_tx_meaning.{specs.Events.new_state, proofs.Opening.opening_matches}
 use Rattle.mlt_manager_invariant.specs.Opening.{opening_state}
 
 nothing_open : (j : ℕ) → set.contains (set.empty {R = nat_cmp}) j ≡ false

@@ -5,8 +5,7 @@ use Rattle.std.specs.FinSet as set
 use Rattle.mlt_manager_invariant.proofs.Names.{WalkContext, Agrees, View, view_of, SameReservations, KeepsRunning, clean_of, local_of, agrees_with_each, IsOperating, OperationFields, context_of, At, Transaction, FitsAt, IsSound, State, all_of, abstract_state_of}
 use Rattle.mlt_hash_split.specs.Rests.{KeepsNoMore}
 use Rattle.mlt_tx_operation.proofs.Operations.{KeepsFewer, stands_with}
-use Rattle.mlt_manager_invariant.proofs.InverseEnds.{open_there}
-use Rattle.mlt_manager_invariant.proofs.Others.{fits_with}
+use Rattle.mlt_manager_invariant.proofs.{InverseEnds.open_there, Others.fits_with}
 
 -- what stays between two states for another transaction j, of whose pages no slot's room is kept that was not before
 pub record IsActiveFor (i j : ℕ) (s s' : State) : Type 0 where

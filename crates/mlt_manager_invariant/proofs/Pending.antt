@@ -2,14 +2,10 @@
 use Rattle.std.proofs.Common.{◌≡◌, ℕ, ◌+◌, ◌≤◌, false, ◌<◌, length, Some, refl, sym, ap, subst, ◌∙◌, inl, inr, arith}
 use Rattle.std.specs.FinMap as map
 use Rattle.mlt_manager_invariant.proofs.Names.{ObjOp, ObjReply, IsInRange, Request, released, Locks, reservation_of, ItemsWithRoom, Running, put_back, started, Undo, LockedStore, LocalState, local, view_of, RunningImages, AllRunning, HoldsNothing, after_roll_back, after_step, images_by, local_of, nothing_after_roll_back, context_of, IsOperating, OperationFields, started_for, TakesTurn, TurnsBack, Answer, starts, SharedState, At, Transaction, KeepsCleanPages, with_transaction, FitsAt, HasPending, IsSound, State, all_of, is_undoing, pending_room, room_of, abstract_state_of}
-use Rattle.mlt_tx_operation.specs.declared.answer.StepAnswer.{StepAnswer}
-use Rattle.mlt_tx_operation.proofs.Operations.{cell_asked}
-use Rattle.mlt_tx.specs.Steps.{KeepsRest, TellsOfPending, Walks}
-use Rattle.mlt_tx.specs.Endings.{IsBlocked}
+use Rattle.mlt_tx_operation.{specs.declared.answer.StepAnswer.StepAnswer, proofs.Operations.cell_asked}
+use Rattle.mlt_tx.specs.{Steps.KeepsRest, Steps.TellsOfPending, Steps.Walks, Endings.IsBlocked}
 use Rattle.mlt_tx.specs.Transactions.{GivesUpRoom, LeavesRoom, StepsPending, pending_after, tx_state_of}
-use Rattle.mlt_manager_invariant.proofs.MaySteps.{is_open_now, same_local, unheld}
-use Rattle.mlt_manager_invariant.proofs.Turning.{local_now, sound_after, stays_all, turns_all}
-use Rattle.mlt_manager_invariant.proofs.Tables.{inserted_here}
+use Rattle.mlt_manager_invariant.proofs.{MaySteps.is_open_now, MaySteps.same_local, MaySteps.unheld, Turning.local_now, Turning.sound_after, Turning.stays_all, Turning.turns_all, Tables.inserted_here}
 use Rattle.mlt_manager_invariant.proofs.Turned.{LeavesAll, rolled_back, stepped, turn_back_leaves, turn_leaves}
 
 module _ (s : State) (i : ℕ) (o : OperationFields) (before after : Transaction) (shared : SharedState)

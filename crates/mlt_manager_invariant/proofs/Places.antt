@@ -3,8 +3,7 @@ use Rattle.std.proofs.Common.{◌≡◌, ℕ, ◌+◌, ◌<◌, List, [], ◌∷
 use Rattle.std.specs.FinMap as map
 use Rattle.mlt_manager_invariant.proofs.Names.{ObjOp, ObjReply, TraceItem, commit_count, HasPlace, IsWhole, Transaction, IsSound, State}
 use Rattle.mlt_order.proofs.RunLemmas.{contains-nothing}
-use Rattle.mlt_trace.specs.Numbers.{CountsFrom, begun_txs}
-use Rattle.mlt_trace.proofs.BegunLaws.{first_or_later}
+use Rattle.mlt_trace.{specs.Numbers.CountsFrom, specs.Numbers.begun_txs, proofs.BegunLaws.first_or_later}
 use Rattle.mlt_trace_check.specs.Traces.{IsRunning}
 
 counts_below : (ns : List ℕ) (first n : ℕ) → CountsFrom first ns → Contains ns n → n < first + length ns

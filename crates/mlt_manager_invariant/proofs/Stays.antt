@@ -3,8 +3,7 @@ use Rattle.std.proofs.Common.{◌≡◌, ◌≢◌, ℕ, ◌≤◌, Bool, List, 
 use Rattle.std.specs.FinMap as map
 use Rattle.std.specs.FinSet as set
 use Rattle.mlt_manager_invariant.proofs.Names.{cases_eq, ObjOp, ObjReply, Entry, lists_of, items_of, Held, TraceItem, entries_of, AreBegunInOrder, AreCounted, begin_count, total_room-insert, RunningImages, clean_pages, PagesMeanHistory, lists_in, same_pages_match, SharedState, Transaction, with_transaction, Fits, IsSound, State, images_kept, room_of, undoing_of, abstract_state_of}
-use Rattle.mlt_manager_invariant.specs.Events.{KeepsClean}
-use Rattle.mlt_manager_invariant.proofs.Others.{still_fits}
+use Rattle.mlt_manager_invariant.{specs.Events.KeepsClean, proofs.Others.still_fits}
 use Rattle.mlt_manager_invariant.proofs.Tables.{fits_after, inserted_elsewhere, inserted_here, opened_after, same_undoing}
 
 module _ (s : State) (i : ℕ) (before after : Transaction) (shared : SharedState) (images : RunningImages)

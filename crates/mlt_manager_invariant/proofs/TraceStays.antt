@@ -3,25 +3,14 @@ use Rattle.std.proofs.Common.{◌≡◌, ◌≢◌, ℕ, List, [], true, false, 
 use Rattle.std.specs.FinMap as map
 use Rattle.mlt_manager_invariant.proofs.Names.{Base, ObjReply, TraceItem, ItemsWithRoom, ArePlaced, IsWhole, told, OperationFields, Answer, SharedState, Transaction, tx_state_of, IsSound, State, is_undoing, IsTraced}
 use Rattle.mlt_object_kinds.specs.Bases.{Step}
-use Rattle.mlt_order.specs.Histories.Stage.{Running}
-use Rattle.mlt_order.specs.Interleavings.{UndoneTo}
-use Rattle.mlt_trace.specs.Items.{trace_text}
-use Rattle.mlt_trace.specs.Numbers.{committed_txs}
-use Rattle.mlt_trace_check.specs.Traces.{IsAcceptedTrace}
-use Rattle.mlt_trace.specs.Ranges.{AllFit}
-use Rattle.mlt_trace_check.proofs.Histories.{accepted_history, accepted_where_nothing_is_open, nothing_of_others}
-use Rattle.mlt_trace_check.proofs.Places.{nothing_placed, writable}
+use Rattle.mlt_order.specs.{Histories.Stage.Running, Interleavings.UndoneTo}
+use Rattle.mlt_trace.specs.{Items.trace_text, Numbers.committed_txs, Ranges.AllFit}
+use Rattle.mlt_trace_check.{specs.Traces.IsAcceptedTrace, proofs.Histories.accepted_history, proofs.Histories.accepted_where_nothing_is_open, proofs.Histories.nothing_of_others, proofs.Places.nothing_placed, proofs.Places.writable}
 use Rattle.mlt_hash_access.specs.CleanPages.{RunningImages}
 use Rattle.mlt_hash.specs.Walks.{WalkContext}
 use Rattle.mlt_tx_meaning.specs.AbstractStates.{lists_in}
-use Rattle.mlt_tx.specs.declared.transaction.At.{At}
-use Rattle.mlt_tx.specs.Steps.{TellsOfBack, TellsOfPending}
-use Rattle.mlt_tx.specs.Transactions.{LeavesRoom, StepsBack, StepsPending, TellsOfCancel}
-use Rattle.mlt_manager_invariant.specs.Events.{Calls, KeepsClean, with_transaction}
-use Rattle.mlt_manager_invariant.specs.Opening.{opening_state}
-use Rattle.mlt_manager_invariant.specs.States.{abstract_state_of}
-use Rattle.mlt_manager_invariant.specs.Transactions.{BeginsAbort}
-use Rattle.mlt_manager_invariant.proofs.Wholes.{others_of, whole_with}
+use Rattle.mlt_tx.specs.{declared.transaction.At.At, Steps.TellsOfBack, Steps.TellsOfPending, Transactions.LeavesRoom, Transactions.StepsBack, Transactions.StepsPending, Transactions.TellsOfCancel}
+use Rattle.mlt_manager_invariant.{specs.Events.Calls, specs.Events.KeepsClean, specs.Events.with_transaction, specs.Opening.opening_state, specs.States.abstract_state_of, specs.Transactions.BeginsAbort, proofs.Wholes.others_of, proofs.Wholes.whole_with}
 
 pub opening_traced : (bits : ℕ → ℕ) (root max_depth max_ops : ℕ) (shared : SharedState) → shared.history.items ≡ [] → IsTraced (opening_state bits root max_depth max_ops shared)
 opening_traced bits root max_depth max_ops shared none = record {

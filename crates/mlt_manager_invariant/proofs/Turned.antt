@@ -2,10 +2,8 @@
 use Rattle.std.proofs.Common.{◌≡◌, ℕ, Option, is_some, true, unwrap_or, sym, ap, ◌∙◌}
 use Rattle.std.specs.FinMap as map
 use Rattle.mlt_manager_invariant.proofs.Names.{Images, LocalState, AllMayStep, AllRunning, KeepsRunning, after_roll_back, after_step, clean_of, is_open, local_of, TakesTurn, TurnsBack}
-use Rattle.mlt_hash_access.proofs.OwnSteps.{step_keeps_tx}
-use Rattle.mlt_hash_access.proofs.AllEvents.{roll_back_clean, roll_back_keeps, step_leaves_clean, step_leaves_views}
-use Rattle.mlt_manager_invariant.proofs.Tables.{inserted_here}
-use Rattle.mlt_manager_invariant.proofs.Closing.{one_after_another}
+use Rattle.mlt_hash_access.proofs.{OwnSteps.step_keeps_tx, AllEvents.roll_back_clean, AllEvents.roll_back_keeps, AllEvents.step_leaves_clean, AllEvents.step_leaves_views}
+use Rattle.mlt_manager_invariant.proofs.{Tables.inserted_here, Closing.one_after_another}
 
 -- what the next step of the transaction works on, after one that led here
 pub stepped : (all : AllRunning) (i : ℕ) (m : LocalState) → m.running.tx ≡ i → local_of (after_step all m) i ≡ m

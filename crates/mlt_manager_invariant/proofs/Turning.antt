@@ -2,9 +2,7 @@
 use Rattle.std.proofs.Common.{◌≡◌, ℕ, ◌+◌, Option, Some, unwrap_or, refl, sym, ap, subst, ◌∙◌}
 use Rattle.std.specs.FinMap as map
 use Rattle.mlt_manager_invariant.proofs.Names.{Locks, reservation_of, Images, Running, Undo, LocalState, local, RunningImages, AllRunning, KeepsRunning, after_step, clean_of, local_of, TakesTurn, SharedState, Transaction, KeepsCleanPages, with_transaction, FitsAt, IsSound, State, all_of, images_kept, is_undoing, room_of}
-use Rattle.mlt_manager_invariant.proofs.MaySteps.{is_open_now, same_local}
-use Rattle.mlt_manager_invariant.proofs.Tables.{inserted_here}
-use Rattle.mlt_manager_invariant.proofs.Turned.{LeavesAll, turn_leaves}
+use Rattle.mlt_manager_invariant.proofs.{MaySteps.is_open_now, MaySteps.same_local, Tables.inserted_here, Turned.LeavesAll, Turned.turn_leaves}
 
 -- what the transaction works on after an event
 pub local_now : (s : State) (i : ℕ) (after : Transaction) (shared : SharedState) (images : RunningImages) → map.get images i ≡ Some after.subtx.images → after.subtx.tx ≡ i

@@ -5,10 +5,8 @@ use Rattle.std.specs.FinSet as set
 use Rattle.mlt_manager_invariant.proofs.Names.{cases_eq, Base, Step, ObjOp, ObjReply, Entry, Lists, after_entry, but_last, lists_of, no_lists, TookBack, items_of, after_entries-push, but_last-push, changed, Locks, SameReservations, reservation_of, TraceItem, entries_of, ItemsWithRoom, CountsFrom, begun_txs, commit_numbers, total_room, entries_of-append, no_begin, no_commit, total_room-insert, PagesMeanHistory, lists_in, OperationFields, Answer, SharedState, At, Transaction, Fits, FitsAt, IsSound, State, images_kept, is_undoing, room_of, undoing_of, abstract_state_of, LedBack, TakesLastBack}
 use Rattle.mlt_tx_meaning.specs.Events.{with_undone as state_undone}
 use Rattle.mlt_tx.specs.Steps.{TakesOne}
-use Rattle.mlt_manager_invariant.specs.Undoing.{with_undone}
+use Rattle.mlt_manager_invariant.{specs.Undoing.with_undone, proofs.Others.still_fits, proofs.Tables.fits_after, proofs.Tables.kept_after, proofs.Tables.opened_after, proofs.Tables.same_undoing}
 use Rattle.mlt_manager_invariant.proofs.LastBack.{IsLeft, led_back, left, one_fewer, pages_now, room_after, room_before}
-use Rattle.mlt_manager_invariant.proofs.Others.{still_fits}
-use Rattle.mlt_manager_invariant.proofs.Tables.{fits_after, kept_after, opened_after, same_undoing}
 
 module _ (s : State) (i : ℕ) (inverting : Option OperationFields) (before after : Transaction) (shared : SharedState)
     (sound : IsSound s) (was : map.get s.txs i ≡ Some before) (takes : TakesLastBack s inverting before after shared Answer.Undone) where

@@ -1,11 +1,9 @@
 -- What is copied from a base, cell by cell, by slots that mean what it holds.
 use Rattle.std.specs.Prelude.{ℕ, ◌≡◌, ◌⊎◌, List, None, Some, Contains}
-use Rattle.mlt_types.specs.declared.cell.Cell.{Cell}
-use Rattle.mlt_types.specs.Cells.{IsInRange, key_number}
+use Rattle.mlt_types.specs.{declared.cell.Cell.Cell, Cells.IsInRange, Cells.key_number}
 use Rattle.mlt_object_kinds.specs.Bases.{Base, state_at}
 use Rattle.mlt_object_base.specs.Records.{IsRecord, state_of_record}
-use Rattle.mlt_page.specs.declared.slot.Slot.{Slot}
-use Rattle.mlt_page.specs.declared.slot.Slot.TheVariants.{Live}
+use Rattle.mlt_page.specs.declared.slot.Slot.{Slot, TheVariants.Live}
 
 -- each cell holds in the part what it does in the whole base, or nothing
 abbrev pub IsPartOf : Base → Base → Type 0

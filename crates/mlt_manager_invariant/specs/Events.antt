@@ -1,24 +1,15 @@
 -- Events of one transaction
 use Rattle.std.specs.Prelude.{length, ◌<◌, ◌≤◌, ℕ, ◌≡◌, ◌+◌, Some}
 use Rattle.std.specs.FinMap as map
-use Rattle.mlt_hash_access.specs.CleanPages.{RunningImages}
-use Rattle.mlt_object_kinds.specs.declared.operation.ObjOp.{ObjOp}
-use Rattle.mlt_object_kinds.specs.Operations.{cell_of}
+use Rattle.mlt_hash_access.specs.{CleanPages.RunningImages, Running.KeepsRunning, Running.clean_of}
+use Rattle.mlt_object_kinds.specs.{declared.operation.ObjOp.ObjOp, Operations.cell_of, Bases.Base, declared.operation.ObjReply.ObjReply}
 use Rattle.mlt_tx_meaning.specs.Presences.{IsOpInRange}
 use Rattle.mlt_object_base.specs.declared.request.Request.TheVariants.{Do}
 use Rattle.mlt_object_locks.specs.Locks.{SameReservations, reservation_of}
-use Rattle.mlt_object_kinds.specs.Bases.{Base}
-use Rattle.mlt_object_kinds.specs.declared.operation.ObjReply.{ObjReply}
-use Rattle.mlt_hash_access.specs.Running.{KeepsRunning, clean_of}
 use Rattle.mlt_tx_operation.specs.Operating.{OperationFields, started_for}
 use Rattle.mlt_event.specs.declared.answer.Answer.{Answer}
-use Rattle.mlt_tx.specs.Transactions.{tx_state_of}
-use Rattle.mlt_tx.specs.declared.transaction.At.{At}
-use Rattle.mlt_tx.specs.Steps.{Ends}
-use Rattle.mlt_tx.specs.declared.shared.SharedState.{SharedState}
-use Rattle.mlt_tx.specs.declared.transaction.Transaction.{Transaction}
-use Rattle.mlt_manager_invariant.specs.Sound.{FitsAt}
-use Rattle.mlt_manager_invariant.specs.States.{State, all_of, is_undoing, room_of}
+use Rattle.mlt_tx.specs.{Transactions.tx_state_of, declared.transaction.At.At, Steps.Ends, declared.shared.SharedState.SharedState, declared.transaction.Transaction.Transaction}
+use Rattle.mlt_manager_invariant.specs.{Sound.FitsAt, States.State, States.all_of, States.is_undoing, States.room_of}
 
 -- transaction i is now this one, and the pages, the locks and the history are these
 abbrev pub with_transaction : State → ℕ → Transaction → SharedState → RunningImages → State

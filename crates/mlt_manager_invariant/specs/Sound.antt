@@ -2,23 +2,15 @@
 use Rattle.std.specs.Prelude.{ℕ, ◌≡◌, ◌≤◌, ◌<◌, List, [], ◌∷◌, ◌++◌, length, None, Some, is_some, IsSome}
 use Rattle.std.specs.FinMap as map
 use Rattle.std.specs.FinSet as set
-use Rattle.mlt_object_kinds.specs.declared.operation.ObjOp.{ObjOp}
-use Rattle.mlt_object_kinds.specs.declared.operation.ObjReply.{ObjReply}
-use Rattle.mlt_object_kinds.specs.Operations.{cell_of}
+use Rattle.mlt_object_kinds.specs.{declared.operation.ObjOp.ObjOp, declared.operation.ObjReply.ObjReply, Operations.cell_of}
 use Rattle.mlt_order.specs.Interleavings.{items_of}
-use Rattle.mlt_object_base.specs.Effects.{inverse_of}
+use Rattle.mlt_object_base.specs.{Effects.inverse_of, declared.request.Request.TheVariants.Do}
 use Rattle.mlt_object_locks.specs.Locks.{reservation_of}
-use Rattle.mlt_trace.specs.Numbers.{AreBegunInOrder, AreCounted, begin_count}
-use Rattle.mlt_trace.specs.Rooms.{total_room}
-use Rattle.mlt_hash_access.specs.Views.{view_of}
-use Rattle.mlt_hash_access.specs.Running.{AllMayStep, HoldsNothing, local_of}
-use Rattle.mlt_object_base.specs.declared.request.Request.TheVariants.{Do}
+use Rattle.mlt_trace.specs.{Numbers.AreBegunInOrder, Numbers.AreCounted, Numbers.begin_count, Rooms.total_room}
+use Rattle.mlt_hash_access.specs.{Views.view_of, Running.AllMayStep, Running.HoldsNothing, Running.local_of}
 use Rattle.mlt_tx_operation.specs.Operating.{IsOperating, OperationFields}
-use Rattle.mlt_tx_meaning.specs.Presences.{IsOpInRange}
-use Rattle.mlt_tx_meaning.specs.AbstractStates.{PagesMeanHistory, context_of, lists_in}
-use Rattle.mlt_tx.specs.declared.transaction.At.{At}
-use Rattle.mlt_tx.specs.declared.transaction.Transaction.{Transaction}
-use Rattle.mlt_tx.specs.Steps.{IsInverting}
+use Rattle.mlt_tx_meaning.specs.{Presences.IsOpInRange, AbstractStates.PagesMeanHistory, AbstractStates.context_of, AbstractStates.lists_in}
+use Rattle.mlt_tx.specs.{declared.transaction.At.At, declared.transaction.Transaction.Transaction, Steps.IsInverting}
 use Rattle.mlt_manager_invariant.specs.States.{State, all_of, images_kept, room_of, abstract_state_of}
 
 -- the operation of transaction i stands by what it has read

@@ -5,13 +5,10 @@ use Rattle.std.specs.FinMap as map
 use Rattle.std.specs.FinSet as set
 use Rattle.mlt_object_kinds.specs.Bases.{Base}
 use Rattle.mlt_trace.specs.Entries.{entries_of}
-use Rattle.mlt_hash_access.specs.CleanPages.{RunningImages, clean_pages}
+use Rattle.mlt_hash_access.specs.{CleanPages.RunningImages, CleanPages.clean_pages, Running.AllRunning}
 use Rattle.mlt_page_subtx.specs.Images.{Images}
-use Rattle.mlt_hash_access.specs.Running.{AllRunning}
 use Rattle.mlt_tx_meaning.specs.AbstractStates.{AbstractState}
-use Rattle.mlt_tx.specs.declared.shared.SharedState.{SharedState}
-use Rattle.mlt_tx.specs.declared.transaction.At.{At}
-use Rattle.mlt_tx.specs.declared.transaction.Transaction.{Transaction}
+use Rattle.mlt_tx.specs.declared.{shared.SharedState.SharedState, transaction.At.At, transaction.Transaction.Transaction}
 
 -- what the laws see of a manager, with its first images and its base
 pub record State : Type 0 where

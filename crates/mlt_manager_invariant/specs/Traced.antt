@@ -2,8 +2,7 @@
 use Rattle.std.specs.Prelude.{ℕ, ◌≡◌, false, Some}
 use Rattle.std.specs.FinMap as map
 use Rattle.mlt_object_kinds.specs.Bases.{Base, Step, empty_base}
-use Rattle.mlt_order.specs.Interleavings.{UndoneTo}
-use Rattle.mlt_order.specs.Runs.{IsSerialBase}
+use Rattle.mlt_order.specs.{Interleavings.UndoneTo, Runs.IsSerialBase}
 use Rattle.mlt_trace_check.specs.Traces.{ArePlaced, IsWhole}
 use Rattle.mlt_tx_meaning.specs.AbstractStates.{lists_in}
 use Rattle.mlt_tx.specs.declared.transaction.Transaction.{Transaction}

@@ -5,9 +5,7 @@ use Rattle.std.specs.FinSet as set
 use Rattle.mlt_object_locks.specs.Locks.{SameReservations, is_of_other}
 use Rattle.mlt_page_subtx.specs.Images.{started}
 use Rattle.mlt_trace.specs.declared.item.TraceItem.{TraceItem}
-use Rattle.mlt_tx.specs.declared.shared.SharedState.{SharedState}
-use Rattle.mlt_tx.specs.declared.transaction.At.{At}
-use Rattle.mlt_tx.specs.declared.transaction.Transaction.{Transaction}
+use Rattle.mlt_tx.specs.declared.{shared.SharedState.SharedState, transaction.At.At, transaction.Transaction.Transaction}
 use Rattle.mlt_manager_invariant.specs.States.{State, room_of}
 
 -- the next number is given out, to this transaction

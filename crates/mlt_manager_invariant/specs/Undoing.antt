@@ -1,20 +1,11 @@
 -- An abort takes the last operation back
 use Rattle.std.specs.Prelude.{ℕ, ◌≡◌, ◌++◌, ◌∷◌, [], Option, None}
 use Rattle.std.specs.FinMap as map
-use Rattle.mlt_object_kinds.specs.Bases.{Base, Step}
-use Rattle.mlt_object_kinds.specs.declared.operation.ObjOp.{ObjOp}
-use Rattle.mlt_object_kinds.specs.declared.operation.ObjReply.{ObjReply}
+use Rattle.mlt_object_kinds.specs.{Bases.Base, Bases.Step, declared.operation.ObjOp.ObjOp, declared.operation.ObjReply.ObjReply}
 use Rattle.mlt_tx_operation.specs.Operating.{OperationFields}
 use Rattle.mlt_event.specs.declared.answer.Answer.{Answer}
-use Rattle.mlt_tx.specs.Transactions.{tx_state_of}
-use Rattle.mlt_tx.specs.declared.shared.SharedState.{SharedState}
-use Rattle.mlt_tx.specs.declared.transaction.At.{At}
-use Rattle.mlt_tx.specs.declared.transaction.Transaction.{Transaction}
-use Rattle.mlt_tx.specs.Steps.{EndsBack}
-use Rattle.mlt_manager_invariant.specs.Events.{with_transaction}
-use Rattle.mlt_manager_invariant.specs.Sound.{IsSound}
-use Rattle.mlt_manager_invariant.specs.States.{State}
-use Rattle.mlt_manager_invariant.specs.Transactions.{without_transaction}
+use Rattle.mlt_tx.specs.{Transactions.tx_state_of, declared.shared.SharedState.SharedState, declared.transaction.At.At, declared.transaction.Transaction.Transaction, Steps.EndsBack}
+use Rattle.mlt_manager_invariant.specs.{Events.with_transaction, Sound.IsSound, States.State, Transactions.without_transaction}
 
 -- transaction i is now this one and keeps no image, and the pages, the locks, the history and the base are these
 abbrev pub with_undone : State → ℕ → Transaction → SharedState → Base → State

@@ -3,16 +3,10 @@ use Rattle.std.proofs.Common.{◌≡◌, ◌≢◌, ℕ, ◌+◌, List, [], ◌�
 use Rattle.std.specs.FinMap as map
 use Rattle.mlt_types.specs.declared.refusal.Refusal.{Refusal}
 use Rattle.mlt_manager_laws.proofs.Names.{ObjOp, Answer, Event, Told, At, Transaction, Table, inserted_elsewhere, removed_elsewhere, view_in, Meets, IsManager, ManagerFields, state_of, one_there}
-use Rattle.mlt_tx.specs.Transactions.{IsPending}
-use Rattle.mlt_tx.specs.Tables.{CancelsOne}
+use Rattle.mlt_tx.specs.{Transactions.IsPending, Tables.CancelsOne}
 use Rattle.mlt_manager_invariant.proofs.Calls.{cancelled_sound}
 use Rattle.mlt_manager.specs.Answers.{AnswersAbort, AnswersCall, AnswersStep, ChangesOpen, HasCalled, IsOpenAt}
-use Rattle.mlt_manager.specs.Chains.{StepsBy, StepsUpTo}
-use Rattle.mlt_manager.specs.Undoings.{GoesOnBack, StopsBack}
-use Rattle.mlt_manager.specs.Wholes.{DropsIfItStands, LetsGoOn, Stops}
-use Rattle.mlt_manager.proofs.Called.{called_keeps, pending_of}
-use Rattle.mlt_manager.proofs.Chains.{steps_keep}
-use Rattle.mlt_manager.proofs.Stepped.{step_keeps}
+use Rattle.mlt_manager.{specs.Chains.StepsBy, specs.Chains.StepsUpTo, specs.Undoings.GoesOnBack, specs.Undoings.StopsBack, specs.Wholes.DropsIfItStands, specs.Wholes.LetsGoOn, specs.Wholes.Stops, proofs.Called.called_keeps, proofs.Called.pending_of, proofs.Chains.steps_keep, proofs.Stepped.step_keeps}
 use Rattle.mlt_manager_laws.proofs.Seen.{StaysAs, changed_stays, clean_sees, same_sees, step_leaves}
 
 -- the same manager

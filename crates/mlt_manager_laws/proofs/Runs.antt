@@ -8,20 +8,11 @@ use Rattle.mlt_manager_laws.proofs.Names.{ObjOp, context_by, Answer, Event, Told
 use Rattle.mlt_object_kinds.specs.declared.operation.ObjReply.{ObjReply}
 use Rattle.mlt_page.specs.declared.page.Page.{Page}
 use Rattle.mlt_hash_access.specs.Views.{View}
-use Rattle.mlt_hash_form.specs.File.{FilePages, GivesPseudokeys, HasForm}
-use Rattle.mlt_hash_form.specs.Prefixes.{IsExtendibleHashFile}
-use Rattle.mlt_hash_form.specs.Records.{IsRecordMap, live_records}
-use Rattle.mlt_hash_form.specs.declared.root.Root.{Root}
+use Rattle.mlt_hash_form.specs.{File.FilePages, File.GivesPseudokeys, File.HasForm, Prefixes.IsExtendibleHashFile, Records.IsRecordMap, Records.live_records, declared.root.Root.Root}
 use Rattle.mlt_tx.specs.Transactions.{TellsOfTransaction}
 use Rattle.mlt_manager_invariant.proofs.Tables.{inserted_here}
-use Rattle.mlt_tx_step_counts.specs.Counts.{IsToTakeBack}
-use Rattle.mlt_tx_step_counts.specs.CountsOfTwo.{TakesBackOf}
-use Rattle.mlt_tx_step_counts.specs.OwnSteps.{AreOwnSteps, with_answer}
-use Rattle.mlt_tx_step_counts.proofs.PassesOfTwo.{inverse_of_any, pass_of}
-use Rattle.mlt_manager.specs.Answers.{counted}
-use Rattle.mlt_manager.specs.Events.{IsRun}
-use Rattle.mlt_manager.specs.Openings.{IsNew}
-use Rattle.mlt_manager.proofs.Keeping.{counted_keeps}
+use Rattle.mlt_tx_step_counts.{specs.Counts.IsToTakeBack, specs.CountsOfTwo.TakesBackOf, specs.OwnSteps.AreOwnSteps, specs.OwnSteps.with_answer, proofs.PassesOfTwo.inverse_of_any, proofs.PassesOfTwo.pass_of}
+use Rattle.mlt_manager.{specs.Answers.counted, specs.Events.IsRun, specs.Openings.IsNew, proofs.Keeping.counted_keeps}
 use Rattle.mlt_manager.proofs.Kept.{abort_kept, begin_kept, call_kept, cancel_kept, commit_kept, new_kept, step_kept, whole_kept, whole_undo_kept}
 use Rattle.mlt_manager_laws.specs.Runs.{HasOwnSteps, IsCutBehind, IsReached, IsStepOrAnothers, OnlySteps, TakesOwnSteps, TakesPassInRun, answers_to, up_to_end, with_told}
 use Rattle.mlt_manager_laws.proofs.Events.{of_abort, of_begin, of_call, of_cancel, of_commit, of_step, of_whole, of_whole_undo}

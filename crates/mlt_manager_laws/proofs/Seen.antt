@@ -3,23 +3,12 @@ use Rattle.std.proofs.Common.{◌≡◌, ◌≢◌, ℕ, Option, None, Some, unw
 use Rattle.std.specs.FinMap as map
 use Rattle.mlt_page_locks.specs.Requests.{released}
 use Rattle.mlt_page_subtx.specs.Images.{Images, Running}
-use Rattle.mlt_hash_access.specs.declared.locked_store.LockedStore.{LockedStore}
-use Rattle.mlt_hash_access.specs.LocalStates.{local}
-use Rattle.mlt_hash_access.specs.Views.{view_of}
-use Rattle.mlt_hash_access.specs.Running.{AllRunning, KeepsRunning, after_end, local_of}
-use Rattle.mlt_hash_access.proofs.AllEvents.{end_keeps}
+use Rattle.mlt_hash_access.{specs.declared.locked_store.LockedStore.LockedStore, specs.LocalStates.local, specs.Views.view_of, specs.Running.AllRunning, specs.Running.KeepsRunning, specs.Running.after_end, specs.Running.local_of, proofs.AllEvents.end_keeps}
 use Rattle.mlt_manager_laws.proofs.Names.{context_by, Answer, At, Transaction, Table, inserted_elsewhere, removed_elsewhere, view_in, HasStepped, txs_after, IsManager, ManagerFields, state_of}
 use Rattle.mlt_tx_operation.specs.Operating.{OperationFields}
 use Rattle.mlt_tx_meaning.specs.AbstractStates.{context_of}
-use Rattle.mlt_tx.specs.declared.shared.SharedState.{SharedState}
-use Rattle.mlt_tx.specs.Endings.{EndsSubtx}
-use Rattle.mlt_tx.specs.Steps.{EndsBack}
-use Rattle.mlt_tx.specs.Transactions.{StepsBack, StepsPending, TellsAt, tx_state_of}
-use Rattle.mlt_manager_invariant.specs.Events.{KeepsCleanPages, with_transaction}
-use Rattle.mlt_manager_invariant.specs.States.{State, all_of, images_kept, abstract_state_of}
-use Rattle.mlt_manager_invariant.proofs.Inverting.{inverse_sound}
-use Rattle.mlt_manager_invariant.proofs.MaySteps.{is_open_now, same_local}
-use Rattle.mlt_manager_invariant.proofs.Pending.{not_done_sound}
+use Rattle.mlt_tx.specs.{declared.shared.SharedState.SharedState, Endings.EndsSubtx, Steps.EndsBack, Transactions.StepsBack, Transactions.StepsPending, Transactions.TellsAt, Transactions.tx_state_of}
+use Rattle.mlt_manager_invariant.{specs.Events.KeepsCleanPages, specs.Events.with_transaction, specs.States.State, specs.States.all_of, specs.States.images_kept, specs.States.abstract_state_of, proofs.Inverting.inverse_sound, proofs.MaySteps.is_open_now, proofs.MaySteps.same_local, proofs.Pending.not_done_sound}
 
 -- a transaction is still what it was, and sees what it saw
 pub record StaysAs {P : Type 0} (m m' : ManagerFields P) (u : ℕ) (t : Transaction) : Type 0 where

@@ -5,16 +5,11 @@ use Rattle.mlt_types.specs.declared.limits.Limits.{Limits}
 use Rattle.mlt_object_kinds.specs.declared.operation.ObjOp.{ObjOp}
 use Rattle.mlt_hash_access.specs.Views.{View}
 use Rattle.mlt_hash.specs.Walks.{WalkContext, context_by}
-use Rattle.mlt_event.specs.declared.answer.Answer.{Answer}
-use Rattle.mlt_event.specs.declared.event.Event.{Event}
-use Rattle.mlt_event.specs.declared.told.Told.{Told}
+use Rattle.mlt_event.specs.declared.{answer.Answer.Answer, event.Event.Event, told.Told.Told}
 use Rattle.mlt_tx.specs.declared.transaction.Transaction.{Transaction}
 use Rattle.mlt_tx_step_counts.specs.CountsOfTwo.{TakesPassOf}
 use Rattle.mlt_tx_step_counts.specs.OwnSteps.{AreOwnSteps, OwnStep, answers_of, view_in, with_answer}
-use Rattle.mlt_manager.specs.Events.{IsRun}
-use Rattle.mlt_manager.specs.Managers.{ManagerFields}
-use Rattle.mlt_manager.specs.Openings.{IsNew}
-use Rattle.mlt_manager.specs.Promises.{KeepsPromises}
+use Rattle.mlt_manager.specs.{Events.IsRun, Managers.ManagerFields, Openings.IsNew, Promises.KeepsPromises}
 
 -- The event is a step of this transaction, or one of another, or one begins.
 abbrev pub IsStepOrAnothers : ℕ → Event → Type 0

@@ -6,12 +6,9 @@ use Rattle.mlt_types.specs.declared.limits.Limits.{Limits}
 use Rattle.mlt_manager_solo.proofs.Names.{Step, empty_base, IsHistory, ScriptForm, TraceItem, entries_of, Outcome, mark_of, outcome_text, Transaction, Table, HasBase, ManagerFields, IsAtRest, HasRunAll, HasRunScript}
 use Rattle.mlt_script.specs.Grammar.{Spells}
 use Rattle.mlt_hash_form.specs.File.{GivesPseudokeys}
-use Rattle.mlt_script_serial.specs.Serial.{AreRuns}
-use Rattle.mlt_script_serial.proofs.Appends.{numbered_push, runs_push}
-use Rattle.mlt_manager.specs.Openings.{IsNew}
-use Rattle.mlt_manager.proofs.Kept.{new_kept}
-use Rattle.mlt_manager_solo.specs.Solo.{IsSoloText}
-use Rattle.mlt_manager_solo.proofs.Runs.{events_push, outcome_marks_push, run_on}
+use Rattle.mlt_script_serial.{specs.Serial.AreRuns, proofs.Appends.numbered_push, proofs.Appends.runs_push}
+use Rattle.mlt_manager.{specs.Openings.IsNew, proofs.Kept.new_kept}
+use Rattle.mlt_manager_solo.{specs.Solo.IsSoloText, proofs.Runs.events_push, proofs.Runs.outcome_marks_push, proofs.Runs.run_on}
 
 module _ {P : Type 0} (bits_of : P → ℕ → ℕ) where
   pub none_run : (m : ManagerFields P) → HasRunAll bits_of [] m m []

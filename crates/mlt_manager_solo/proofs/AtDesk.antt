@@ -2,10 +2,7 @@
 use Rattle.std.proofs.Common.{◌≡◌, ℕ, [], ◌∷◌, Bool, true, false, Result, Ok, Err, inl, inr, refl, sym, subst, ◌∙◌}
 use Rattle.mlt_manager_solo.proofs.Names.{Refusal, Transcript, ObjOp, ObjReply, Ending, ScriptForm, End, Committed, Aborted, Refused, Answer, Event, Told, counted, Meets, ManagerFields, HasOneIdle, IsAtRest, CanMark, HasAsked, HasRunScript, IsRefused, IsTakenBack, done_by, HasBegunAbort, IsIdle, begun_by}
 use Rattle.mlt_script.specs.declared.statement.Ending.TheVariants.{Commit, Abort}
-use Rattle.mlt_script_serial.specs.declared.call.DeskAnswer.{DeskAnswer}
-use Rattle.mlt_script_serial.specs.Calls.{Moves, answer_by}
-use Rattle.mlt_script_serial.specs.Plays.{Gives, PlaysAt}
-use Rattle.mlt_script_serial.specs.DeskRuns.{ClosesAs, IsRunAt, refusal_of_script}
+use Rattle.mlt_script_serial.specs.{declared.call.DeskAnswer.DeskAnswer, Calls.Moves, Calls.answer_by, Plays.Gives, Plays.PlaysAt, DeskRuns.ClosesAs, DeskRuns.IsRunAt, DeskRuns.refusal_of_script}
 use Rattle.mlt_manager_solo.specs.Desks.{MeetsAbort, MeetsCall, MeetsOperation, MeetsUndoing, abort_told, reply_told}
 use Rattle.mlt_manager_solo.proofs.Backs.{committed_rests}
 use Rattle.mlt_manager_solo.proofs.Ends.{abort_is_told, closes_it, commit_is_told, undo_is_told, undoes_it}

@@ -3,9 +3,7 @@ use Rattle.std.proofs.Common.{◌≡◌, ◌≤◌, ℕ, None, Some, Ok, length,
 use Rattle.std.specs.FinMap as map
 use Rattle.mlt_manager_solo.proofs.Names.{Refusal, Base, Answer, At, Transaction, Table, inserted_elsewhere, removed_elsewhere, HasBegunAbort, HasClosed, HasCommitted, IsByAnother, IsIdle, IsOpenAt, IsUndoing, HasBase, UndoingLeavesBase, IsManager, ManagerFields, TraceItem, one_there, HasOneIdle, HasOneUndoing, IsAtRest, KeepsCommitted}
 use Rattle.mlt_manager_invariant.proofs.Tables.{removed_here}
-use Rattle.mlt_manager.specs.Undoings.{GoesOnBack, IsCauseAtUndo, IsNotUndoing, StepsBackUpTo}
-use Rattle.mlt_manager.proofs.Ended.{abort_begun_keeps, closed_keeps, committed_keeps}
-use Rattle.mlt_manager.proofs.Kept.{whole_undo_kept}
+use Rattle.mlt_manager.{specs.Undoings.GoesOnBack, specs.Undoings.IsCauseAtUndo, specs.Undoings.IsNotUndoing, specs.Undoings.StepsBackUpTo, proofs.Ended.abort_begun_keeps, proofs.Ended.closed_keeps, proofs.Ended.committed_keeps, proofs.Kept.whole_undo_kept}
 use Rattle.mlt_manager_solo.proofs.Items.{backs_commit_none, commit_keeps_base, commits_none, committed_by}
 use Rattle.mlt_manager_solo.proofs.Steps.{StaysBeside, beside_both, changed_here, none_left, step_beside, steps_beside}
 

@@ -1,12 +1,9 @@
 -- How the transaction that alone is open ends
 use Rattle.std.proofs.Common.{◌≡◌, true, false, Ok, Err, ℕ, refl, subst}
 use Rattle.mlt_manager_solo.proofs.Names.{Refusal, Answer, Event, Told, AnswersAbort, HasBegunAbort, HasClosed, IsByAnother, IsIdle, IsUndoing, counted, UndoingLeavesBase, ManagerFields, HasOneIdle, HasOneUndoing, IsAtRest, IsTakenBack}
-use Rattle.mlt_manager.specs.Answers.{AnswersCommit}
-use Rattle.mlt_manager.specs.Undoings.{AnswersWholeUndo}
+use Rattle.mlt_manager.specs.{Answers.AnswersCommit, Undoings.AnswersWholeUndo}
 use Rattle.mlt_manager_solo.proofs.Backs.{abort_begins, aborted_rests, back_commits_nothing, closed_commits_none, closed_rests, undoing_is_undoing, waits_for_nobody}
-use Rattle.mlt_manager_solo.proofs.Runs.{run_one}
-use Rattle.mlt_manager_solo.proofs.Scripts.{counted_one, none_committed}
-use Rattle.mlt_manager_solo.proofs.Wholes.{idle_is_idle}
+use Rattle.mlt_manager_solo.proofs.{Runs.run_one, Scripts.counted_one, Scripts.none_committed, Wholes.idle_is_idle}
 
 module _ {P : Type 0} (bits_of : P → ℕ → ℕ) (old new : ManagerFields P) (tx : ℕ) (one : HasOneIdle bits_of old tx) where
   -- **Its commit is not refused,** nor is its abort

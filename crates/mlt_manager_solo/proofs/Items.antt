@@ -3,11 +3,7 @@ use Rattle.std.proofs.Common.{◌≡◌, ◌≢◌, ℕ, zero, suc, replicate, L
 use Rattle.std.specs.FinMap as map
 use Rattle.std.specs.FinSet as set
 use Rattle.mlt_manager_solo.proofs.Names.{Base, Step, empty_base, ObjOp, ObjReply, Entry, IsHistory, no_lists, IsSerialBase, follow_push, TraceItem, entries_of, entries_of-append, Transaction, HasBase, IsManager, ManagerFields, lists_by, IsAtRest}
-use Rattle.mlt_order.specs.Histories.{Lists, after_entry, lists_of}
-use Rattle.mlt_order.specs.Histories.Entry.{Committed}
-use Rattle.mlt_order.specs.Histories.Stage.{Running}
-use Rattle.mlt_order.proofs.Growing.{after_entries-push}
-use Rattle.mlt_order.proofs.RunLemmas.{serial_to_one}
+use Rattle.mlt_order.{specs.Histories.Lists, specs.Histories.after_entry, specs.Histories.lists_of, specs.Histories.Entry.Committed, specs.Histories.Stage.Running, proofs.Growing.after_entries-push, proofs.RunLemmas.serial_to_one}
 use Rattle.mlt_trace.specs.Entries.{entry_of}
 use Rattle.mlt_trace_check.proofs.Histories.{nothing_of_others, serializable}
 use Rattle.mlt_object_conflicts.proofs.BaseOrder.{base_functional}

@@ -3,8 +3,7 @@ use Rattle.std.proofs.Common.{ℕ, List, [], ◌∷◌, ◌++◌, Option, None, 
 use Rattle.std.proofs.lemmas.List.{map-append}
 use Rattle.mlt_manager_solo.proofs.Names.{Refusal, Transcript, ScriptForm, End, Committed, Aborted, Refused, Outcome, mark_of, Event, Told, counted, Meets, ManagerFields}
 use Rattle.mlt_script_serial.specs.Serial.{mark_of_end}
-use Rattle.mlt_manager_solo.specs.Asking.{CanBeMarks, CanEnd}
-use Rattle.mlt_manager_solo.specs.Events.{AreEventsOf, AreEventsOfAll, Exchange, IsRunOf}
+use Rattle.mlt_manager_solo.specs.{Asking.CanBeMarks, Asking.CanEnd, Events.AreEventsOf, Events.AreEventsOfAll, Events.Exchange, Events.IsRunOf}
 
 -- one event
 pub run_one : {P : Type 0} (bits_of : P → ℕ → ℕ) (old new : ManagerFields P) (e : Event) (t : Told) → Meets bits_of e t (counted old) new → IsRunOf bits_of old ((e, t) ∷ []) new

@@ -4,21 +4,11 @@ use Rattle.std.specs.Cmp.{nat_cmp_total}
 use Rattle.std.specs.FinMap as map
 use Rattle.mlt_manager_solo.proofs.Names.{Refusal, Base, Step, Transcript, empty_base, ObjOp, ObjReply, Entry, IsHistory, no_lists, IsSerialBase, follow_push, Ending, ScriptForm, Committed, Aborted, Refused, TraceItem, entries_of, entries_of-append, Answer, Event, Told, Transaction, inserted_elsewhere, inserted_here, AnswersCall, IsByAnother, IsIdle, counted, HasBase, Meets, IsManager, ManagerFields, lists_by, HasRun, HasOneIdle, IsAtRest, KeepsCommitted, CanMark, HasAsked, HasRunScript, IsRefused, IsTakenBack, done_by, At, HasOne, HasCommitted, begun_by}
 use Rattle.mlt_object_kinds.specs.Bases.{TranscriptLeads}
-use Rattle.mlt_order.specs.Histories.Entry.{Begun}
-use Rattle.mlt_order.specs.Histories.Stage.{Fresh}
-use Rattle.mlt_script_serial.specs.declared.cursor.Next.{Next}
+use Rattle.mlt_order.specs.Histories.{Entry.Begun, Stage.Fresh}
+use Rattle.mlt_script_serial.{specs.declared.cursor.Next.Next, specs.Follows.Questions.Asks, specs.Follows.Questions.Ends, proofs.Transcripts.is_partial}
 use Rattle.mlt_script_serial.specs.Follows.{Follows, IsNext, IsPartial, Questions, Reaches, questions_of_script}
-use Rattle.mlt_script_serial.specs.Follows.Questions.{Asks, Ends}
-use Rattle.mlt_script_serial.proofs.Transcripts.{is_partial}
-use Rattle.mlt_manager.specs.Answers.{HasBegun, IsCauseAtBegin}
-use Rattle.mlt_manager.proofs.Ended.{begun_keeps}
-use Rattle.mlt_manager.proofs.Keeping.{counted_keeps}
-use Rattle.mlt_manager.proofs.Kept.{whole_kept}
-use Rattle.mlt_manager_solo.specs.Events.{Exchange, taken_back}
-use Rattle.mlt_manager_solo.proofs.Backs.{committed_base}
-use Rattle.mlt_manager_solo.proofs.Items.{base_at_rest, commits_none, committed_by, serial_at_rest}
-use Rattle.mlt_manager_solo.proofs.Runs.{run_on, run_one}
-use Rattle.mlt_manager_solo.proofs.Steps.{still_one}
+use Rattle.mlt_manager.{specs.Answers.HasBegun, specs.Answers.IsCauseAtBegin, proofs.Ended.begun_keeps, proofs.Keeping.counted_keeps, proofs.Kept.whole_kept}
+use Rattle.mlt_manager_solo.{specs.Events.Exchange, specs.Events.taken_back, proofs.Backs.committed_base, proofs.Items.base_at_rest, proofs.Items.commits_none, proofs.Items.committed_by, proofs.Items.serial_at_rest, proofs.Runs.run_on, proofs.Runs.run_one, proofs.Steps.still_one}
 use Rattle.mlt_manager_solo.proofs.Wholes.{call_refused, run_beside, run_done_idle, run_refused_idle, stands_behind_nobody}
 
 module _ {P : Type 0} (bits_of : P → ℕ → ℕ) where

@@ -6,17 +6,10 @@ use Rattle.mlt_manager_solo.proofs.Names.{Refusal, ObjReply, Answer, At, Transac
 use Rattle.mlt_hash_access.specs.LocalStates.{LocalState}
 use Rattle.mlt_hash.specs.Walks.{WalkContext, context_by}
 use Rattle.mlt_object_base.specs.declared.request.Request.{Request}
-use Rattle.mlt_tx_two_records.specs.declared.two_records.TwoRecordWalk.TheVariants.{Wide}
-use Rattle.mlt_tx_two_records.specs.declared.two_records.WideStage.{WideStage}
-use Rattle.mlt_tx_operation.specs.declared.access_path.AccessPath.{AccessPath}
-use Rattle.mlt_tx_operation.specs.declared.access_path.AccessPath.TheVariants.{Two}
-use Rattle.mlt_tx_operation.specs.Answers.{CauseBy, IsCauseOf}
-use Rattle.mlt_tx_operation.specs.Operating.{OperationFields}
-use Rattle.mlt_tx.specs.declared.shared.SharedState.{SharedState}
-use Rattle.mlt_tx.specs.Transactions.{TellsAt}
-use Rattle.mlt_tx.specs.Tables.{ChangesOne}
-use Rattle.mlt_manager.specs.Answers.{ChangesOpen, HasStepped, txs_after}
-use Rattle.mlt_manager.specs.Chains.{StepsBy}
+use Rattle.mlt_tx_two_records.specs.declared.two_records.{TwoRecordWalk.TheVariants.Wide, WideStage.WideStage}
+use Rattle.mlt_tx_operation.specs.{declared.access_path.AccessPath.AccessPath, declared.access_path.AccessPath.TheVariants.Two, Answers.CauseBy, Answers.IsCauseOf, Operating.OperationFields}
+use Rattle.mlt_tx.specs.{declared.shared.SharedState.SharedState, Transactions.TellsAt, Tables.ChangesOne}
+use Rattle.mlt_manager.specs.{Answers.ChangesOpen, Answers.HasStepped, Answers.txs_after, Chains.StepsBy}
 
 -- no transaction but this one has changed, and neither has how many may be open, or how many have committed
 pub record StaysBeside {P : Type 0} (old new : ManagerFields P) (tx : ℕ) : Type 0 where

@@ -3,8 +3,7 @@ use Rattle.std.proofs.Common.{◌≡◌, ℕ, Option, None, Some, IsSome, Err, r
 use Rattle.std.specs.FinMap as map
 use Rattle.mlt_manager_solo.proofs.Names.{Refusal, ObjOp, ObjReply, Answer, At, Transaction, Table, AnswersCall, IsByAnother, IsIdle, IsOpenAt, IsUndoing, ManagerFields, HasRun, one_there, HasOneIdle, CanMark}
 use Rattle.mlt_tx.specs.Transactions.{IsPending}
-use Rattle.mlt_manager.specs.Answers.{IsNotIdle}
-use Rattle.mlt_manager.specs.Wholes.{DropsIfItStands, LetsGoOn, Stops}
+use Rattle.mlt_manager.specs.{Answers.IsNotIdle, Wholes.DropsIfItStands, Wholes.LetsGoOn, Wholes.Stops}
 use Rattle.mlt_manager_solo.proofs.Steps.{StaysBeside, beside_both, beside_same, changed_beside, changed_here, done_idles, refused_idles, step_beside, steps_beside}
 
 idle_or : (IsOther : At → Type 0) → (IsOther At.Idle → ⊥) → (a : At) → IsIdle a → IsOther a → ⊥

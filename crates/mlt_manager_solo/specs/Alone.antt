@@ -2,9 +2,7 @@
 use Rattle.std.specs.Prelude.{ℕ, ◌≡◌, ◌≢◌, ◌≤◌, None}
 use Rattle.std.specs.FinMap as map
 use Rattle.mlt_tx.specs.declared.transaction.At.{At}
-use Rattle.mlt_manager.specs.Answers.{IsIdle, IsOpenAt, IsUndoing}
-use Rattle.mlt_manager.specs.Managers.{IsManager, ManagerFields}
-use Rattle.mlt_manager.specs.Promises.{lists_by}
+use Rattle.mlt_manager.specs.{Answers.IsIdle, Answers.IsOpenAt, Answers.IsUndoing, Managers.IsManager, Managers.ManagerFields, Promises.lists_by}
 
 -- no transaction is open, and one may be
 pub record IsAtRest {P : Type 0} (bits_of : P → ℕ → ℕ) (m : ManagerFields P) : Type 0 where

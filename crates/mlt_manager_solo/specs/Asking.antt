@@ -1,20 +1,11 @@
 -- What the operations of a script, and its end, do to a manager
 use Rattle.std.specs.Prelude.{ℕ, ◌≡◌, ◌⊎◌, Bool, List, [], ◌∷◌, Option, None, Some, map}
 use Rattle.mlt_types.specs.declared.refusal.Refusal.{Refusal}
-use Rattle.mlt_object_kinds.specs.Bases.{Base, TranscriptLeads, Transcript}
-use Rattle.mlt_object_kinds.specs.declared.operation.ObjOp.{ObjOp}
+use Rattle.mlt_object_kinds.specs.{Bases.Base, Bases.TranscriptLeads, Bases.Transcript, declared.operation.ObjOp.ObjOp}
 use Rattle.mlt_script.specs.Scripts.{ScriptForm}
-use Rattle.mlt_script_serial.specs.declared.outcome.End.{End}
-use Rattle.mlt_script_serial.specs.declared.outcome.End.TheVariants.{Refused}
-use Rattle.mlt_script_serial.specs.declared.outcome.Outcome.{Outcome}
-use Rattle.mlt_script_serial.specs.Serial.{AreNumbered, AreRuns, IsScriptRun, mark_of}
-use Rattle.mlt_event.specs.declared.answer.Answer.{Answer}
-use Rattle.mlt_event.specs.declared.event.Event.{Event}
-use Rattle.mlt_event.specs.declared.told.Told.{Told}
-use Rattle.mlt_manager.specs.Answers.{counted}
-use Rattle.mlt_manager.specs.Bases.{HasBase}
-use Rattle.mlt_manager.specs.Events.{Meets}
-use Rattle.mlt_manager.specs.Managers.{ManagerFields}
+use Rattle.mlt_script_serial.specs.{declared.outcome.End.End, declared.outcome.End.TheVariants.Refused, declared.outcome.Outcome.Outcome, Serial.AreNumbered, Serial.AreRuns, Serial.IsScriptRun, Serial.mark_of}
+use Rattle.mlt_event.specs.declared.{answer.Answer.Answer, event.Event.Event, told.Told.Told}
+use Rattle.mlt_manager.specs.{Answers.counted, Bases.HasBase, Events.Meets, Managers.ManagerFields}
 use Rattle.mlt_manager_solo.specs.Alone.{KeepsCommitted}
 use Rattle.mlt_manager_solo.specs.Events.{AreEventsOf, AreEventsOfAll, Exchange, IsRunOf, taken_back}
 

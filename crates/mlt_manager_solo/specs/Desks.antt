@@ -1,18 +1,11 @@
 -- What a desk over a manager alone says of its calls: each is an event of the manager, and an abort is one or two
 use Rattle.std.specs.Prelude.{ℕ, ◌≡◌, Bool, false, Result, Ok, Err}
 use Rattle.mlt_types.specs.declared.refusal.Refusal.{Refusal}
-use Rattle.mlt_object_kinds.specs.declared.operation.ObjOp.{ObjOp}
-use Rattle.mlt_object_kinds.specs.declared.operation.ObjReply.{ObjReply}
-use Rattle.mlt_script_serial.specs.declared.call.DeskAnswer.{DeskAnswer}
+use Rattle.mlt_object_kinds.specs.declared.operation.{ObjOp.ObjOp, ObjReply.ObjReply}
+use Rattle.mlt_script_serial.specs.{declared.call.DeskAnswer.DeskAnswer, declared.call.DeskCall.DeskCall, Calls.answer_by}
 use Rattle.mlt_script_serial.specs.declared.call.DeskAnswer.TheVariants.{Begun, Replied, Committed, Aborted, Refused}
-use Rattle.mlt_script_serial.specs.declared.call.DeskCall.{DeskCall}
-use Rattle.mlt_script_serial.specs.Calls.{answer_by}
-use Rattle.mlt_event.specs.declared.answer.Answer.{Answer}
-use Rattle.mlt_event.specs.declared.event.Event.{Event}
-use Rattle.mlt_event.specs.declared.told.Told.{Told}
-use Rattle.mlt_manager.specs.Answers.{counted}
-use Rattle.mlt_manager.specs.Events.{Meets}
-use Rattle.mlt_manager.specs.Managers.{ManagerFields}
+use Rattle.mlt_event.specs.declared.{answer.Answer.Answer, event.Event.Event, told.Told.Told}
+use Rattle.mlt_manager.specs.{Answers.counted, Events.Meets, Managers.ManagerFields}
 
 -- what an abort was told that answers so
 abbrev pub abort_told : Result Bool Refusal → Told

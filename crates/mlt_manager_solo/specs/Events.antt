@@ -1,20 +1,11 @@
 -- The events of scripts that run alone, one after another, and what each is told
 use Rattle.std.specs.Prelude.{ℕ, ◌≡◌, ◌⊎◌, Bool, true, false, List, [], ◌∷◌, ◌++◌, map}
 use Rattle.mlt_types.specs.declared.refusal.Refusal.{Refusal}
-use Rattle.mlt_object_kinds.specs.Bases.{Transcript}
-use Rattle.mlt_object_kinds.specs.declared.operation.ObjOp.{ObjOp}
-use Rattle.mlt_object_kinds.specs.declared.operation.ObjReply.{ObjReply}
+use Rattle.mlt_object_kinds.specs.{Bases.Transcript, declared.operation.ObjOp.ObjOp, declared.operation.ObjReply.ObjReply}
 use Rattle.mlt_script.specs.Scripts.{ScriptForm}
-use Rattle.mlt_script_serial.specs.Follows.{Questions, Reaches, questions_of_script}
-use Rattle.mlt_script_serial.specs.Follows.Questions.{Asks}
-use Rattle.mlt_script_serial.specs.declared.outcome.End.{End}
-use Rattle.mlt_script_serial.specs.declared.outcome.End.TheVariants.{Committed, Aborted, Refused}
-use Rattle.mlt_script_serial.specs.declared.outcome.Outcome.{Outcome}
-use Rattle.mlt_event.specs.declared.answer.Answer.{Answer}
-use Rattle.mlt_event.specs.declared.event.Event.{Event}
-use Rattle.mlt_event.specs.declared.told.Told.{Told}
-use Rattle.mlt_manager.specs.Events.{IsRun}
-use Rattle.mlt_manager.specs.Managers.{ManagerFields}
+use Rattle.mlt_script_serial.specs.{Follows.Questions, Follows.Reaches, Follows.questions_of_script, Follows.Questions.Asks, declared.outcome.End.End, declared.outcome.End.TheVariants.Committed, declared.outcome.End.TheVariants.Aborted, declared.outcome.End.TheVariants.Refused, declared.outcome.Outcome.Outcome}
+use Rattle.mlt_event.specs.declared.{answer.Answer.Answer, event.Event.Event, told.Told.Told}
+use Rattle.mlt_manager.specs.{Events.IsRun, Managers.ManagerFields}
 
 -- an event, with what it was told
 abbrev pub Exchange : Type 0

@@ -1,19 +1,11 @@
 -- What `solo` writes for an input, and the manager that it answers
 use Rattle.std.specs.Prelude.{◌≡◌, ℕ, List, [], Option}
-use Rattle.mlt_types.specs.declared.limits.Limits.{Limits}
-use Rattle.mlt_types.specs.declared.refusal.Refusal.{Refusal}
+use Rattle.mlt_types.specs.declared.{limits.Limits.Limits, refusal.Refusal.Refusal}
 use Rattle.mlt_object_kinds.specs.Bases.{Base}
-use Rattle.mlt_script.specs.Grammar.{Spells}
-use Rattle.mlt_script.specs.Scripts.{ScriptForm}
-use Rattle.mlt_script_serial.specs.declared.outcome.Outcome.{Outcome}
-use Rattle.mlt_script_serial.specs.declared.report.ReportForm.TheVariants.{Solo}
-use Rattle.mlt_script_serial.specs.Serial.{AreNumbered, IsSerialRun}
-use Rattle.mlt_script_serial.specs.Texts.{report_text}
-use Rattle.mlt_manager.specs.Bases.{HasBase}
-use Rattle.mlt_manager.specs.Managers.{ManagerFields}
-use Rattle.mlt_manager.specs.Openings.{IsNew}
-use Rattle.mlt_manager_solo.specs.Asking.{CanBeMarks}
-use Rattle.mlt_manager_solo.specs.Events.{AreEventsOfAll, Exchange, IsRunOf}
+use Rattle.mlt_script.specs.{Grammar.Spells, Scripts.ScriptForm}
+use Rattle.mlt_script_serial.specs.{declared.outcome.Outcome.Outcome, declared.report.ReportForm.TheVariants.Solo, Serial.AreNumbered, Serial.IsSerialRun, Texts.report_text}
+use Rattle.mlt_manager.specs.{Bases.HasBase, Managers.ManagerFields, Openings.IsNew}
+use Rattle.mlt_manager_solo.specs.{Asking.CanBeMarks, Events.AreEventsOfAll, Events.Exchange, Events.IsRunOf}
 
 -- From a new manager with these limits and this function to pseudokeys, the scripts' whole operations are a run, in which
 -- they are told what the outcomes say; and its history leads to this base.

@@ -1,17 +1,11 @@
 -- What `steps` writes for an input.
 use Rattle.std.specs.Prelude.{◌≡◌, ℕ, Bool, true, false, List, [], ◌∷◌, ◌++◌, codes}
 use Rattle.mlt_types.specs.declared.limits.Limits.{Limits}
-use Rattle.mlt_object_kinds.specs.Bases.{Base}
-use Rattle.mlt_object_kinds.specs.Texts.{with_number}
+use Rattle.mlt_object_kinds.specs.{Bases.Base, Texts.with_number}
 use Rattle.mlt_object_base.specs.BaseText.{base_text}
-use Rattle.mlt_event.specs.declared.event.Event.{Event}
-use Rattle.mlt_event.specs.declared.told.Told.{Told}
-use Rattle.mlt_event_text.specs.Grammar.{Spells}
-use Rattle.mlt_event_text.specs.TellTexts.{told_text}
-use Rattle.mlt_manager.specs.Bases.{HasDepth}
-use Rattle.mlt_manager.specs.Events.{Plays}
-use Rattle.mlt_manager.specs.Managers.{ManagerFields}
-use Rattle.mlt_manager.specs.Promises.{IsCommittedBaseOf}
+use Rattle.mlt_event.specs.declared.{event.Event.Event, told.Told.Told}
+use Rattle.mlt_event_text.specs.{Grammar.Spells, TellTexts.told_text}
+use Rattle.mlt_manager.specs.{Bases.HasDepth, Events.Plays, Managers.ManagerFields, Promises.IsCommittedBaseOf}
 
 -- the line of a directory's depth
 abbrev pub depth_line : ℕ → List ℕ

@@ -1,13 +1,8 @@
 -- What the finite map that a list of entries makes has at a key, and how it changes with the list.
 use Rattle.std.proofs.Common.{◌≡◌, ℕ, ◌-◌, Bool, true, false, List, [], ◌∷◌, ◌||◌, Option, None, Some, is_some, cond, length, zero, suc, refl, arith, sym, ◌∙◌, ap, nat_cmp}
-use Rattle.std.specs.declared.cmp.Ordering.{Ordering}
+use Rattle.std.specs.{declared.cmp.Ordering.Ordering, Cmp.IsTotalOrder, FinMap.get-from_entries, FinMap.get-insert, FinMap.get-remove, FinMap.Entries.find, FinMap.Entries.put, FinMap.Entries.by_order, List.list_any, List.Sorted.IsStrictlySortedBy}
 use Rattle.mlt_object_base.proofs.Names.{nat_cmp_total, lookup, keys_of, is_at, eq_by_cmp_equiv, with_entry, element_cmp_tells_apart, element_cmp_total, counter_entry, counter_value, element_cmp, element_entry, AreNotZero, IsNotZero, less_one, with_nothing}
-use Rattle.std.specs.Cmp.{IsTotalOrder}
 use Rattle.std.specs.FinMap as finmap
-use Rattle.std.specs.FinMap.{get-from_entries, get-insert, get-remove}
-use Rattle.std.specs.FinMap.Entries.{find, put, by_order}
-use Rattle.std.specs.List.{list_any}
-use Rattle.std.specs.List.Sorted.{IsStrictlySortedBy}
 use Rattle.mlt_object_kinds.proofs.BaseLaws.{same_element}
 
 -- ---- any keys

@@ -1,30 +1,5 @@
 -- Names of other crates, of std and of specs/ that two files of these proofs or more import. Declares nothing.
-pub use Rattle.mlt_object_base.specs.BaseText.{account_line, key_line, value_line}
-pub use Rattle.mlt_object_base.specs.Effects.{changes_on, inverse_of, own_change_on, size_change_of, size_inverse_of}
-pub use Rattle.mlt_object_base.specs.Kept.{AreCounted, AreNotZero, IsNotZero, base_of, kept_size, less_one, with_nothing}
-pub use Rattle.mlt_object_base.specs.Meaning.{Means, changes_back, changes_of, record_in, records_after, size_record_in, told_by}
-pub use Rattle.mlt_object_base.specs.Records.{HasSizeToUndo, IsRecord, counter_of_record, record_after, state_of_record}
-pub use Rattle.mlt_object_base.specs.declared.record.RecChange.{RecChange}
-pub use Rattle.mlt_object_base.specs.declared.record.RecordChanges.{RecordChanges}
-pub use Rattle.mlt_object_kinds.proofs.BaseLaws.{element_cmp_tells_apart, element_cmp_total, entry_beside, entry_here, state_beside, state_here, step_to}
-pub use Rattle.mlt_object_kinds.proofs.Sizes.{size_after_step, size_below}
-pub use Rattle.mlt_object_kinds.specs.Accounts.{AccountStep}
-pub use Rattle.mlt_object_kinds.specs.Bases.{Base, Step, TellsSize, counter_entry, counter_value, element_cmp, element_entry, size_at, state_at, with_state}
-pub use Rattle.mlt_object_kinds.specs.Cells.{CellStep}
-pub use Rattle.mlt_object_kinds.specs.Cells.CellState.{ElementState}
-pub use Rattle.mlt_object_kinds.specs.Counters.{CounterStep}
-pub use Rattle.mlt_object_kinds.specs.Operations.{cell_of}
-pub use Rattle.mlt_object_kinds.specs.Sizes.{put_into, taken_from}
-pub use Rattle.mlt_object_kinds.specs.declared.element.ElementOp.{ElementOp}
-pub use Rattle.mlt_object_kinds.specs.declared.operation.ObjOp.{ObjOp}
-pub use Rattle.mlt_object_kinds.specs.declared.operation.ObjReply.{ObjReply}
-pub use Rattle.mlt_types.specs.Cells.{IsInRange, key_number}
-pub use Rattle.mlt_types.specs.Maps.{with_entry}
-pub use Rattle.mlt_types.specs.declared.cell.Cell.{Cell}
-pub use Rattle.mlt_types.specs.declared.cell.Cell.TheVariants.{Account, Counter, Element, Size}
-pub use Rattle.std.proofs.lemmas.Bool.{cases_eq}
-pub use Rattle.std.proofs.lemmas.Cmp.{eq_by_cmp_equiv}
-pub use Rattle.std.specs.BTreeMap.{get_by, is_at}
-pub use Rattle.std.specs.Cmp.{nat_cmp_total}
-pub use Rattle.std.specs.Map.{keys_of, lookup}
-pub use Rattle.std.specs.Option.{option_copied_mut}
+pub use Rattle.mlt_object_base.specs.{BaseText.account_line, BaseText.key_line, BaseText.value_line, Effects.changes_on, Effects.inverse_of, Effects.own_change_on, Effects.size_change_of, Effects.size_inverse_of, Kept.AreCounted, Kept.AreNotZero, Kept.IsNotZero, Kept.base_of, Kept.kept_size, Kept.less_one, Kept.with_nothing, Meaning.Means, Meaning.changes_back, Meaning.changes_of, Meaning.record_in, Meaning.records_after, Meaning.size_record_in, Meaning.told_by, Records.HasSizeToUndo, Records.IsRecord, Records.counter_of_record, Records.record_after, Records.state_of_record, declared.record.RecChange.RecChange, declared.record.RecordChanges.RecordChanges}
+pub use Rattle.mlt_object_kinds.{proofs.BaseLaws.element_cmp_tells_apart, proofs.BaseLaws.element_cmp_total, proofs.BaseLaws.entry_beside, proofs.BaseLaws.entry_here, proofs.BaseLaws.state_beside, proofs.BaseLaws.state_here, proofs.BaseLaws.step_to, proofs.Sizes.size_after_step, proofs.Sizes.size_below, specs.Accounts.AccountStep, specs.Bases.Base, specs.Bases.Step, specs.Bases.TellsSize, specs.Bases.counter_entry, specs.Bases.counter_value, specs.Bases.element_cmp, specs.Bases.element_entry, specs.Bases.size_at, specs.Bases.state_at, specs.Bases.with_state, specs.Cells.CellStep, specs.Cells.CellState.ElementState, specs.Counters.CounterStep, specs.Operations.cell_of, specs.Sizes.put_into, specs.Sizes.taken_from, specs.declared.element.ElementOp.ElementOp, specs.declared.operation.ObjOp.ObjOp, specs.declared.operation.ObjReply.ObjReply}
+pub use Rattle.mlt_types.specs.{Cells.IsInRange, Cells.key_number, Maps.with_entry, declared.cell.Cell.Cell, declared.cell.Cell.TheVariants.Account, declared.cell.Cell.TheVariants.Counter, declared.cell.Cell.TheVariants.Element, declared.cell.Cell.TheVariants.Size}
+pub use Rattle.std.{proofs.lemmas.Bool.cases_eq, proofs.lemmas.Cmp.eq_by_cmp_equiv, specs.BTreeMap.get_by, specs.BTreeMap.is_at, specs.Cmp.nat_cmp_total, specs.Map.keys_of, specs.Map.lookup, specs.Option.option_copied_mut}

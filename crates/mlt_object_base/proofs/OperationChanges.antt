@@ -2,8 +2,7 @@
 use Rattle.std.proofs.Common.{◌≡◌, ◌≢◌, inl, inr, ℕ, ◌+◌, ◌^◌, ◌<◌, ◌≤◌, true, false, List, [], ◌∷◌, ◌++◌, Option, None, Some, refl, sym, ap, subst, ◌∙◌, arith, eq-eqb, nat_cmp}
 use Rattle.mlt_object_base.proofs.Names.{cases_eq, nat_cmp_total, Cell, Account, Element, Counter, Size, IsInRange, key_number, with_entry, ElementOp, ObjOp, ObjReply, entry_beside, entry_here, state_beside, state_here, step_to, size_after_step, size_below, Base, Step, TellsSize, size_at, state_at, with_state, CellStep, ElementState, cell_of, put_into, taken_from, RecordChanges, RecChange, changes_on, inverse_of, own_change_on, size_change_of, size_inverse_of, Means, changes_back, changes_of, record_in, records_after, size_record_in, told_by, HasSizeToUndo, IsRecord, counter_of_record, record_after, state_of_record}
 use Rattle.std.specs.FinMap as map
-use Rattle.mlt_object_kinds.proofs.Sizes.{other_set_untouched}
-use Rattle.mlt_object_kinds.specs.Bases.{element_at}
+use Rattle.mlt_object_kinds.{proofs.Sizes.other_set_untouched, specs.Bases.element_at}
 use Rattle.mlt_object_base.specs.Effects.{size_change_on, size_reply_of}
 use Rattle.mlt_object_base.proofs.Meanings.{MeansCells, a_state, below_or_not, cells_changed, cells_meant, changed, record_beside, record_here}
 

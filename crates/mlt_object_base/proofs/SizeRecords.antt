@@ -3,11 +3,7 @@
 use Rattle.std.proofs.Common.{◌≡◌, ◌≢◌, ◌⊎◌, inl, inr, ℕ, ◌+◌, ◌^◌, ◌<◌, ◌≤◌, [], Option, None, Some, IsSome, refl, sym, ap, subst, ◌∙◌, arith, eq-eqb, nat_cmp}
 use Rattle.mlt_object_base.proofs.Names.{cases_eq, Account, Element, Counter, Size, IsInRange, ElementOp, ObjOp, ObjReply, size_after_step, Base, size_at, CellStep, cell_of, put_into, taken_from, RecordChanges, RecChange, changes_on, inverse_of, own_change_on, size_change_of, size_inverse_of, Means, changes_back, changes_of, record_in, records_after, size_record_in, told_by, HasSizeToUndo, IsRecord, counter_of_record, record_after, state_of_record}
 use Rattle.std.specs.FinMap as map
-use Rattle.mlt_object_base.specs.declared.request.Request.{Request}
-use Rattle.mlt_object_base.specs.declared.request.Request.TheVariants.{Do, TakeBack}
-use Rattle.mlt_object_base.specs.Records.{CanChange}
-use Rattle.mlt_object_base.specs.Requests.{CanResize, size_decision}
-use Rattle.mlt_object_base.proofs.Meanings.{cells_meant, changed, record_beside, record_here}
+use Rattle.mlt_object_base.{specs.declared.request.Request.Request, specs.declared.request.Request.TheVariants.Do, specs.declared.request.Request.TheVariants.TakeBack, specs.Records.CanChange, specs.Requests.CanResize, specs.Requests.size_decision, proofs.Meanings.cells_meant, proofs.Meanings.changed, proofs.Meanings.record_beside, proofs.Meanings.record_here}
 use Rattle.mlt_object_base.proofs.OperationChanges.{after_both, after_own, bounded, element_changes, means_step, means_step_back, now_of, size_stays, undone_of}
 
 -- ---- size records stay

@@ -2,10 +2,7 @@
 use Rattle.std.proofs.Common.{◌≡◌, ℕ, Bool, Option, is_some, refl, sym, subst, nat_cmp}
 use Rattle.std.specs.FinMap as map
 use Rattle.mlt_object_base.proofs.Names.{with_entry, ElementOp, ObjOp, ObjReply, AccountStep, step_to, Base, Step, TellsSize, counter_entry, counter_value, element_cmp, element_entry, state_at, CellStep, ElementState, CounterStep, cell_of, base_of}
-use Rattle.mlt_object_kinds.specs.declared.account.AccountOp.{AccountOp}
-use Rattle.mlt_object_kinds.specs.declared.counter.CounterOp.{CounterOp}
-use Rattle.mlt_object_kinds.specs.Cells.CellState.{AccountState, CounterState}
-use Rattle.mlt_object_kinds.specs.Elements.{ElementStep}
+use Rattle.mlt_object_kinds.specs.{declared.account.AccountOp.AccountOp, declared.counter.CounterOp.CounterOp, Cells.CellState.AccountState, Cells.CellState.CounterState, Elements.ElementStep}
 
 -- a step that leaves its cell as it was leaves the base
 pub step_that_stays : (b b' : Base) (x : ObjOp × ObjReply) → b' ≡ b → CellStep (state_at b (cell_of x.0)) x (state_at b (cell_of x.0)) → TellsSize b x → Step b x b'

@@ -2,19 +2,11 @@
 use Rattle.std.proofs.Common.{◌≡◌, ℕ, suc, ◌+◌, ◌-◌, ◌<◌, ◌≤◌, Bool, true, false, Option, None, Some, [], ◌∷◌, ◌++◌, take, length, get_or, refl, sym, ap, subst, ◌∙◌, arith, inl, inr}
 use Rattle.std.proofs.Math.Seq.{take-suc}
 use Rattle.mlt_types.specs.declared.cell.Cell.{Cell}
-use Rattle.mlt_object_kinds.specs.declared.account.AccountOp.{AccountOp}
-use Rattle.mlt_object_kinds.specs.declared.counter.CounterOp.{CounterOp}
-use Rattle.mlt_object_kinds.specs.declared.element.ElementOp.{ElementOp}
-use Rattle.mlt_object_kinds.specs.declared.operation.ObjOp.{ObjOp}
-use Rattle.mlt_object_kinds.specs.declared.operation.ObjReply.{ObjReply}
+use Rattle.mlt_object_kinds.{specs.declared.account.AccountOp.AccountOp, specs.declared.counter.CounterOp.CounterOp, specs.declared.element.ElementOp.ElementOp, specs.declared.operation.ObjOp.ObjOp, specs.declared.operation.ObjReply.ObjReply, specs.Cells.CellState, specs.Cells.CellStep, specs.Cells.CellState.AccountState, specs.Cells.CellState.ElementState, specs.Cells.CellState.CounterState, specs.Cells.CellState.NoState, specs.Operations.cell_of, proofs.BaseLaws.base_one_answer, proofs.BaseLaws.same_base, proofs.BaseLaws.one_cell_or_two}
 use Rattle.mlt_object_kinds.specs.declared.operation.ObjReply.TheVariants.{Opened, Closed, Done, Added, Removed}
 use Rattle.mlt_object_kinds.specs.Accounts as accounts
 use Rattle.mlt_object_kinds.specs.Elements as elements
 use Rattle.mlt_object_kinds.specs.Counters as counters
-use Rattle.mlt_object_kinds.specs.Cells.{CellState, CellStep}
-use Rattle.mlt_object_kinds.specs.Cells.CellState.{AccountState, ElementState, CounterState, NoState}
-use Rattle.mlt_object_kinds.specs.Operations.{cell_of}
-use Rattle.mlt_object_kinds.proofs.BaseLaws.{base_one_answer, same_base, one_cell_or_two}
 use Rattle.mlt_object_kinds.specs.Bases.{Base, Step, TranscriptLeads, TellsSize, Transcript, state_at, SameBut}
 use Rattle.mlt_object_base.specs.TakingBack.{opposite_of}
 

@@ -1,12 +1,8 @@
 -- The lines of what the maps and the set of a base are kept as are the lines of what they stand for.
 use Rattle.std.proofs.Common.{◌≡◌, ℕ, ◌+◌, ◌-◌, ◌≤◌, List, [], ◌∷◌, ◌++◌, Option, None, Some, IfSome, Result, Ok, Err, OnOk, refl, sym, ap, ◌∙◌, arith, All, flat_map, nat_cmp}
 use Rattle.mlt_object_base.proofs.Names.{eq_by_cmp_equiv, is_at, nat_cmp_total, keys_of, lookup, element_cmp_total, element_cmp, account_line, key_line, value_line, AreNotZero, IsNotZero, less_one, with_nothing}
-use Rattle.std.proofs.lemmas.List.Elements.{All-head, All-tail}
-use Rattle.std.proofs.lemmas.Map.Keys.{IsDistinct-from_sorted}
-use Rattle.std.proofs.lemmas.Map.Views.{All-values_from_lookup}
+use Rattle.std.{proofs.lemmas.List.Elements.All-head, proofs.lemmas.List.Elements.All-tail, proofs.lemmas.Map.Keys.IsDistinct-from_sorted, proofs.lemmas.Map.Views.All-values_from_lookup, specs.List.Sorted.IsStrictlySortedBy, specs.Map.values_of}
 use Rattle.std.specs.FinMap as map
-use Rattle.std.specs.List.Sorted.{IsStrictlySortedBy}
-use Rattle.std.specs.Map.{values_of}
 use Rattle.mlt_object_base.specs.BaseText.{account_lines, counter_line, counter_lines, element_line, element_lines}
 use Rattle.mlt_object_base.proofs.Maps.{entries_that_rise}
 

@@ -2,8 +2,7 @@
 use Rattle.std.specs.Prelude.{ℕ, ◌+◌, List, [], ◌∷◌, ◌++◌, codes, flat_map}
 use Rattle.std.specs.FinMap as map
 use Rattle.std.specs.Ordering.{nat_cmp}
-use Rattle.mlt_object_kinds.specs.Bases.{Base, element_cmp}
-use Rattle.mlt_object_kinds.specs.Texts.{with_number}
+use Rattle.mlt_object_kinds.specs.{Bases.Base, Bases.element_cmp, Texts.with_number}
 
 -- a word and two numbers, and the end of the line
 abbrev pub line_of : List ℕ → ℕ → ℕ → List ℕ

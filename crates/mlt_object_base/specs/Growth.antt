@@ -1,12 +1,6 @@
 -- Which operations take memory.
 use Rattle.std.specs.Prelude.{◌≡◌, ◌≢◌, None, false}
-use Rattle.mlt_object_kinds.specs.declared.account.AccountOp.TheVariants.{Open}
-use Rattle.mlt_object_kinds.specs.declared.counter.CounterOp.{CounterOp}
-use Rattle.mlt_object_kinds.specs.declared.counter.CounterOp.TheVariants.{Up, Down}
-use Rattle.mlt_object_kinds.specs.declared.element.ElementOp.TheVariants.{Add}
-use Rattle.mlt_object_kinds.specs.declared.operation.ObjOp.{ObjOp}
-use Rattle.mlt_object_kinds.specs.declared.operation.ObjOp.TheVariants.{Account, Element, Counter}
-use Rattle.mlt_object_kinds.specs.Bases.{Base, account_at, counter_at, element_at}
+use Rattle.mlt_object_kinds.specs.{declared.account.AccountOp.TheVariants.Open, declared.counter.CounterOp.CounterOp, declared.counter.CounterOp.TheVariants.Up, declared.counter.CounterOp.TheVariants.Down, declared.element.ElementOp.TheVariants.Add, declared.operation.ObjOp.ObjOp, declared.operation.ObjOp.TheVariants.Account, declared.operation.ObjOp.TheVariants.Element, declared.operation.ObjOp.TheVariants.Counter, Bases.Base, Bases.account_at, Bases.counter_at, Bases.element_at}
 
 -- the operation takes a counter away from 0
 abbrev pub LeavesZero : CounterOp → Type 0

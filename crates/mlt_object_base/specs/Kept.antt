@@ -1,16 +1,10 @@
 -- What the maps and the set of a base are kept as: lists of entries and keys.
 use Rattle.std.specs.Prelude.{◌≡◌, ℕ, ◌-◌, ◌^◌, ◌<◌, ◌≤◌, true, List, Option, None, Some, is_some, unwrap_or, map}
-use Rattle.std.specs.Ordering.{nat_cmp}
+use Rattle.std.specs.{Ordering.nat_cmp, Map.lookup, BTreeMap.is_at}
 use Rattle.std.specs.FinMap as finmap
-use Rattle.std.specs.Map.{lookup}
-use Rattle.std.specs.BTreeMap.{is_at}
 use Rattle.mlt_types.specs.Maps.{with_entry}
-use Rattle.mlt_object_kinds.specs.declared.account.AccountOp.{AccountOp}
-use Rattle.mlt_object_kinds.specs.declared.counter.CounterOp.{CounterOp}
-use Rattle.mlt_object_kinds.specs.declared.operation.ObjReply.{ObjReply}
-use Rattle.mlt_object_kinds.specs.Accounts.{AccountStep, IsAccount}
+use Rattle.mlt_object_kinds.specs.{declared.account.AccountOp.AccountOp, declared.counter.CounterOp.CounterOp, declared.operation.ObjReply.ObjReply, Accounts.AccountStep, Accounts.IsAccount, Counters.CounterStep}
 use Rattle.mlt_object_kinds.specs.Bases.{Base, counter_entry, counter_value, element_cmp, size_at}
-use Rattle.mlt_object_kinds.specs.Counters.{CounterStep}
 
 -- the base of these accounts, elements and counters
 abbrev pub base_of

@@ -2,19 +2,10 @@
 use Rattle.std.specs.Prelude.{◌≡◌, ℕ, ◌^◌, ◌<◌, List, [], ◌∷◌, Option, None, Some}
 use Rattle.std.specs.FinMap as map
 use Rattle.std.specs.Ordering.{nat_cmp}
-use Rattle.mlt_types.specs.declared.cell.Cell.{Cell}
-use Rattle.mlt_types.specs.declared.cell.Cell.TheVariants.{Size}
-use Rattle.mlt_types.specs.Cells.{IsInRange, key_number}
-use Rattle.mlt_types.specs.Maps.{with_entry}
-use Rattle.mlt_object_kinds.specs.declared.operation.ObjOp.{ObjOp}
-use Rattle.mlt_object_kinds.specs.declared.operation.ObjReply.{ObjReply}
-use Rattle.mlt_object_kinds.specs.Bases.{Base, size_at, state_at}
-use Rattle.mlt_object_kinds.specs.Cells.{CellStep}
-use Rattle.mlt_object_kinds.specs.Operations.{cell_of}
-use Rattle.mlt_object_base.specs.declared.record.RecordChanges.{RecordChanges}
-use Rattle.mlt_object_base.specs.declared.record.RecChange.{RecChange}
+use Rattle.mlt_types.specs.{declared.cell.Cell.Cell, declared.cell.Cell.TheVariants.Size, Cells.IsInRange, Cells.key_number, Maps.with_entry}
+use Rattle.mlt_object_kinds.specs.{declared.operation.ObjOp.ObjOp, declared.operation.ObjReply.ObjReply, Bases.Base, Bases.size_at, Bases.state_at, Cells.CellStep, Operations.cell_of}
+use Rattle.mlt_object_base.specs.{declared.record.RecordChanges.RecordChanges, declared.record.RecChange.RecChange, Records.IsRecord, Records.counter_of_record, Records.record_after, Records.state_of_record}
 use Rattle.mlt_object_base.specs.Effects.{changes_on, inverse_of, reply_of, size_change_of, size_inverse_of}
-use Rattle.mlt_object_base.specs.Records.{IsRecord, counter_of_record, record_after, state_of_record}
 
 -- The records mean the base: each cell that there can be has a record that it can have, and holds what that means; any
 -- other holds nothing. And the value of each size record is the number of the elements of its set; a set without one has

@@ -1,19 +1,9 @@
 -- What an operation is asked to do, and what it does with what it finds
 use Rattle.std.specs.Prelude.{ℕ, ◌+◌, ◌-◌, ◌^◌, ◌<◌, Option, None, Some, IsSome}
-use Rattle.mlt_types.specs.declared.cell.Cell.{Cell}
-use Rattle.mlt_types.specs.declared.mode.Mode.{Mode}
-use Rattle.mlt_types.specs.declared.mode.Mode.TheVariants.{Exclusive}
-use Rattle.mlt_types.specs.Cells.{key_number}
-use Rattle.mlt_object_kinds.specs.declared.element.ElementOp.{ElementOp}
-use Rattle.mlt_object_kinds.specs.declared.operation.ObjOp.{ObjOp}
-use Rattle.mlt_object_kinds.specs.declared.operation.ObjOp.TheVariants.{Element}
-use Rattle.mlt_object_kinds.specs.declared.operation.ObjReply.{ObjReply}
-use Rattle.mlt_object_kinds.specs.Operations.{cell_of}
-use Rattle.mlt_object_base.specs.declared.record.RecChange.{RecChange}
-use Rattle.mlt_object_base.specs.declared.request.Request.{Request}
-use Rattle.mlt_object_base.specs.declared.request.Request.TheVariants.{Do, TakeBack}
+use Rattle.mlt_types.specs.{declared.cell.Cell.Cell, declared.mode.Mode.Mode, declared.mode.Mode.TheVariants.Exclusive, Cells.key_number}
+use Rattle.mlt_object_kinds.specs.{declared.element.ElementOp.ElementOp, declared.operation.ObjOp.ObjOp, declared.operation.ObjOp.TheVariants.Element, declared.operation.ObjReply.ObjReply, Operations.cell_of}
+use Rattle.mlt_object_base.specs.{declared.record.RecChange.RecChange, declared.request.Request.Request, declared.request.Request.TheVariants.Do, declared.request.Request.TheVariants.TakeBack, Records.CanChange, Records.counter_of_record}
 use Rattle.mlt_object_base.specs.Effects.{access_of, inverse_of, reply_of, size_change_of, size_inverse_of}
-use Rattle.mlt_object_base.specs.Records.{CanChange, counter_of_record}
 
 -- the key that a request walks to, and the mode in which it locks the key's bucket
 abbrev pub target_of : Request → ℕ × Mode

@@ -2,8 +2,7 @@
 use Rattle.std.proofs.Common.{◌≡◌, ℕ, true, false, refl, sym, subst, MatchBool}
 use Rattle.mlt_object_conflicts.proofs.Names.{AccountStep, IsLegalOnAccount, account_after, AccountOp, ObjReply, AccountClass, Opened, account_class, account_marks, account_item, account_breach, paired, IsOfClass, BreaksAt, ClassesConflict, ClassesCommute}
 use Rattle.mlt_object_conflicts.proofs.AccountPairs.{Legal, after, Fits, amount_in, account_rows_commute, account_rows_break, breach_fits}
-use Rattle.mlt_object_conflicts.proofs.AccountRows.{amount, account_has_rows}
-use Rattle.mlt_object_conflicts.proofs.Rows.{classes_commute, classes_break, RowsBreak}
+use Rattle.mlt_object_conflicts.proofs.{AccountRows.amount, AccountRows.account_has_rows, Rows.classes_commute, Rows.classes_break, Rows.RowsBreak}
 
 pub account_classes_commute : (p q : AccountClass) → account_marks p q ≡ false → ClassesCommute AccountStep account_class p q
 account_classes_commute p q free =

@@ -1,8 +1,7 @@
 -- Which classes of accounts right commute backward: one tactic serves every pair.
 use Rattle.std.proofs.Common.{◌≡◌, ℕ, ◌+◌, ◌-◌, ◌≤◌, ◌<◌, ◌^◌, Option, None, Some, true, false, arith, ap}
-use Rattle.mlt_object_kinds.specs.Accounts.{max_balance}
+use Rattle.mlt_object_kinds.specs.{Accounts.max_balance, AccountLaws.level, AccountLaws.level_injective}
 use Rattle.mlt_object_conflicts.proofs.Names.{AccountOp, Deposit, Withdraw, AccountClass, Opened, account_marks, account_breach, account_item}
-use Rattle.mlt_object_kinds.specs.AccountLaws.{level, level_injective}
 use Rattle.mlt_object_conflicts.specs.declared.accounts.AccountClass.TheVariants.{Exists, Closed, NotEmpty, Deposited, Over, Withdrawn, Short, Balance, Missing}
 
 -- where a class with its amount is legal

@@ -1,10 +1,8 @@
 -- The rows of accounts are those of the table of operations and replies.
 use Rattle.std.proofs.Common.{◌≡◌, ℕ, Option, None, Some, refl, arith}
 use Rattle.mlt_object_conflicts.proofs.Names.{IsLegalOnAccount, account_after, AccountOp, Deposit, Withdraw, ObjReply, Is, account_class}
-use Rattle.mlt_object_kinds.specs.declared.account.AccountOp.TheVariants.{Open, Balance}
-use Rattle.mlt_object_kinds.specs.declared.operation.ObjReply.TheVariants.{Opened}
-use Rattle.mlt_object_conflicts.proofs.AccountPairs.{Legal, after, Fits}
-use Rattle.mlt_object_conflicts.proofs.Rows.{RowIsLegal, row_after, HasRows}
+use Rattle.mlt_object_kinds.specs.declared.{account.AccountOp.TheVariants.Open, account.AccountOp.TheVariants.Balance, operation.ObjReply.TheVariants.Opened}
+use Rattle.mlt_object_conflicts.proofs.{AccountPairs.Legal, AccountPairs.after, AccountPairs.Fits, Rows.RowIsLegal, Rows.row_after, Rows.HasRows}
 
 -- the amount of an operation, or the value that it was told
 abbrev pub amount : AccountOp → ObjReply → ℕ

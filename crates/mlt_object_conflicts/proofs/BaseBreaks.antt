@@ -1,17 +1,8 @@
 -- What breaks on one cell breaks over whole bases.
 use Rattle.std.proofs.Common.{◌≡◌, ◌⊎◌, ℕ, Bool, true, false, ◌&&◌, Option, None, Some, nat_eq, refl, sym, ap, subst, ◌∙◌, inl, inr, ne_eqb, MatchBool}
 use Rattle.mlt_object_conflicts.proofs.Names.{cases_eq, Cell, ObjOp, Account, Element, Counter, Size, AccountOp, ElementOp, CounterOp, ObjReply, Is, AccountStep, ElementStep, CounterStep, CellStep, AccountState, ElementState, CounterState, NoState, Base, Step, state_at, with_state, empty_base, step_to, state_here, RightCommutesBackward, ElementClass, Added, Removed, account_class, account_marks, element_class, element_item, element_marks, counter_class, counter_marks, clashes, marked_classes, base_of_one, changes_told, on_element, told_size, paired, BreaksAt, ClassesConflict}
-use Rattle.mlt_object_kinds.specs.Cells.{CellState}
-use Rattle.mlt_object_kinds.specs.Bases.{TellsSize}
-use Rattle.mlt_object_kinds.proofs.BaseLaws.{cell_step_states}
-use Rattle.mlt_object_kinds.specs.Operations.{cell_of}
-use Rattle.mlt_object_conflicts.proofs.BaseCommutes.{clash_free_commute}
-use Rattle.mlt_object_conflicts.proofs.SizeBreaks.{added_breaks, removed_breaks}
-use Rattle.mlt_object_conflicts.specs.BaseConflicts.{IsLike, SomeLikeThemBreak}
-use Rattle.mlt_object_conflicts.specs.Sizes.{tells_size}
-use Rattle.mlt_object_conflicts.proofs.AccountExact.{account_exact}
-use Rattle.mlt_object_conflicts.proofs.ElementExact.{element_exact}
-use Rattle.mlt_object_conflicts.proofs.CounterExact.{counter_exact}
+use Rattle.mlt_object_kinds.{specs.Cells.CellState, specs.Bases.TellsSize, proofs.BaseLaws.cell_step_states, specs.Operations.cell_of}
+use Rattle.mlt_object_conflicts.{proofs.BaseCommutes.clash_free_commute, proofs.SizeBreaks.added_breaks, proofs.SizeBreaks.removed_breaks, specs.BaseConflicts.IsLike, specs.BaseConflicts.SomeLikeThemBreak, specs.Sizes.tells_size, proofs.AccountExact.account_exact, proofs.ElementExact.element_exact, proofs.CounterExact.counter_exact}
 
 -- the operation asks for no size, and so is told none
 abbrev AsksNoSize : ObjOp → Type 0

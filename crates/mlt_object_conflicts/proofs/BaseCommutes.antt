@@ -2,13 +2,7 @@
 use Rattle.std.proofs.Common.{◌≡◌, ℕ, true, false, cond, ◌&&◌, nat_eq, refl, ap, inl, inr, arith, eq-eqb, ne_eqb}
 use Rattle.mlt_object_conflicts.proofs.Names.{cases_eq, Cell, RightCommutesBackward, ObjOp, Account, Element, Counter, Size, AccountOp, ElementOp, CounterOp, ObjReply, Add, AccountStep, ElementStep, CounterStep, AccountState, ElementState, CounterState, NoState, CellStep, Step, account_class, account_marks, element_class, element_marks, counter_class, counter_marks, clashes, changes_told, paired}
 use Rattle.std.specs.Cmp.{nat_eq_equiv}
-use Rattle.mlt_object_kinds.specs.declared.element.ElementOp.TheVariants.{Remove, Has}
-use Rattle.mlt_object_kinds.specs.Sizes.{put_into, taken_from}
-use Rattle.mlt_object_kinds.specs.Accounts.{IsLegalOnAccount as account_legal, account_after as account_next}
-use Rattle.mlt_object_kinds.specs.Elements.{IsLegalOnElement as element_legal, element_after as element_next}
-use Rattle.mlt_object_kinds.specs.Counters.{IsLegalOnCounter as counter_legal, counter_after as counter_next}
-use Rattle.mlt_object_kinds.proofs.CommutingLaws.{apart_on_two_cells, cell_steps_commute, two_cells_commute}
-use Rattle.mlt_object_kinds.specs.Operations.{AreApart}
+use Rattle.mlt_object_kinds.{specs.declared.element.ElementOp.TheVariants.Remove, specs.declared.element.ElementOp.TheVariants.Has, specs.Sizes.put_into, specs.Sizes.taken_from, specs.Accounts.IsLegalOnAccount as account_legal, specs.Accounts.account_after as account_next, specs.Elements.IsLegalOnElement as element_legal, specs.Elements.element_after as element_next, specs.Counters.IsLegalOnCounter as counter_legal, specs.Counters.counter_after as counter_next, proofs.CommutingLaws.apart_on_two_cells, proofs.CommutingLaws.cell_steps_commute, proofs.CommutingLaws.two_cells_commute, specs.Operations.AreApart}
 use Rattle.mlt_object_conflicts.proofs.AccountPairs as account
 use Rattle.mlt_object_conflicts.proofs.AccountRows as account_rows
 use Rattle.mlt_object_conflicts.proofs.ElementPairs as element

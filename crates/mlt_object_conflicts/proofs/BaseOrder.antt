@@ -1,12 +1,8 @@
 -- The laws of commit order at the steps of bases.
 use Rattle.std.proofs.Common.{◌≡◌, ◌≢◌, ◌↔◌, ℕ, [], ◌∷◌, false, Contains}
 use Rattle.mlt_object_conflicts.proofs.Names.{Base, Step, base_one_answer, ObjOp, ObjReply, clashes}
-use Rattle.mlt_object_kinds.specs.Bases.{Transcript, TranscriptLeads}
-use Rattle.mlt_object_kinds.proofs.BaseLaws.{base_one_start}
-use Rattle.mlt_order.specs.Histories.{Lists, MayCome}
-use Rattle.mlt_order.specs.Histories.Entry.{Did}
-use Rattle.mlt_order.specs.Histories.Stage.{Running}
-use Rattle.mlt_order.specs.Runs.{IsFunctional, IsInjective, Runs}
+use Rattle.mlt_object_kinds.{specs.Bases.Transcript, specs.Bases.TranscriptLeads, proofs.BaseLaws.base_one_start}
+use Rattle.mlt_order.specs.{Histories.Lists, Histories.MayCome, Histories.Entry.Did, Histories.Stage.Running, Runs.IsFunctional, Runs.IsInjective, Runs.Runs}
 use Rattle.mlt_object_conflicts.proofs.BaseCommutes.{clash_free_commute}
 
 pub base_functional : IsFunctional Step

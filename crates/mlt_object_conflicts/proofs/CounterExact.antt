@@ -1,10 +1,8 @@
 -- The table of counters is exact.
 use Rattle.std.proofs.Common.{◌≡◌, false, refl, arith, MatchBool}
 use Rattle.mlt_object_conflicts.proofs.Names.{CounterStep, IsLegalOnCounter, counter_after, CounterClass, counter_class, counter_marks, paired, BreaksAt, ClassesConflict, ClassesCommute}
-use Rattle.mlt_object_conflicts.specs.declared.counters.CounterClass.TheVariants.{Counted, Read}
-use Rattle.mlt_object_conflicts.specs.CounterTable.{counter_item}
+use Rattle.mlt_object_conflicts.{specs.declared.counters.CounterClass.TheVariants.Counted, specs.declared.counters.CounterClass.TheVariants.Read, specs.CounterTable.counter_item, proofs.Rows.classes_commute}
 use Rattle.mlt_object_conflicts.proofs.CounterPairs.{Legal, after, Fits, amount, counter_has_rows, counter_rows_commute}
-use Rattle.mlt_object_conflicts.proofs.Rows.{classes_commute}
 
 pub counter_classes_commute : (p q : CounterClass) → counter_marks p q ≡ false → ClassesCommute CounterStep counter_class p q
 counter_classes_commute p q free =

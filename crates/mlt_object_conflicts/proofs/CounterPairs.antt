@@ -1,9 +1,7 @@
 -- The rows of counters, and which classes right commute backward.
 use Rattle.std.proofs.Common.{◌≡◌, ℕ, ◌+◌, ◌-◌, ◌<◌, ◌%◌, ◌^◌, false, refl, arith}
 use Rattle.mlt_object_conflicts.proofs.Names.{IsLegalOnCounter, counter_after, CounterOp, ObjReply, Is, CounterClass, counter_class, counter_marks}
-use Rattle.mlt_object_kinds.specs.declared.counter.CounterOp.TheVariants.{Up, Down, Read}
-use Rattle.mlt_object_kinds.specs.declared.operation.ObjReply.TheVariants.{Done}
-use Rattle.mlt_object_kinds.specs.CounterLaws.{below}
+use Rattle.mlt_object_kinds.specs.{declared.counter.CounterOp.TheVariants.Up, declared.counter.CounterOp.TheVariants.Down, declared.counter.CounterOp.TheVariants.Read, declared.operation.ObjReply.TheVariants.Done, CounterLaws.below}
 use Rattle.mlt_object_conflicts.proofs.Rows.{RowIsLegal, row_after, HasRows}
 
 -- where a class is legal, with what is added modulo 2^64, or the value that is read

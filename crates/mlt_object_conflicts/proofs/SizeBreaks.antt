@@ -2,10 +2,8 @@
 use Rattle.std.proofs.Common.{◌≡◌, ◌≢◌, ℕ, ◌+◌, Bool, true, false, cond, ◌&&◌, nat_eq, is_some, refl, sym, ap, subst, ◌∙◌, arith, MatchBool}
 use Rattle.std.specs.FinMap as map
 use Rattle.mlt_object_conflicts.proofs.Names.{Cell, ElementOp, ObjOp, ObjReply, Is, ElementStep, Base, Step, empty_base, state_at, with_state, ElementState, NoState, base_one_answer, state_here, step_to, ElementClass, Added, Removed, element_class, element_item, clashes, base_of_one, changes_told, on_element, told_size, BreaksAt, IsOfClass}
-use Rattle.mlt_object_kinds.specs.Bases.{element_at, element_cmp, size_at}
-use Rattle.mlt_object_kinds.proofs.Sizes.{size_of_empty, size_with_element}
-use Rattle.mlt_object_conflicts.specs.Sizes.{BreaksSizes, ConflictsWithSizes, CommutesWithSizes, counts}
-use Rattle.mlt_object_conflicts.proofs.BaseCommutes.{clash_free_commute}
+use Rattle.mlt_object_kinds.{specs.Bases.element_at, specs.Bases.element_cmp, specs.Bases.size_at, proofs.Sizes.size_of_empty, proofs.Sizes.size_with_element}
+use Rattle.mlt_object_conflicts.{specs.Sizes.BreaksSizes, specs.Sizes.ConflictsWithSizes, specs.Sizes.CommutesWithSizes, specs.Sizes.counts, proofs.BaseCommutes.clash_free_commute}
 
 -- each size may be asked for
 size_step : (b : Base) (s : ℕ) → Step b (told_size s (size_at b s)) b

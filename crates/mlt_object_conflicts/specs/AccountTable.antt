@@ -1,9 +1,7 @@
 -- The conflict table of accounts.
 use Rattle.std.specs.Prelude.{ℕ, ◌+◌, ◌-◌, Bool, true, false, Option, Some, None}
-use Rattle.mlt_object_kinds.specs.declared.account.AccountOp.{AccountOp}
+use Rattle.mlt_object_kinds.specs.{declared.account.AccountOp.AccountOp, declared.operation.ObjReply.ObjReply, Accounts.max_balance}
 use Rattle.mlt_object_kinds.specs.declared.account.AccountOp.TheVariants.{Open, Close, Deposit, Withdraw, Balance}
-use Rattle.mlt_object_kinds.specs.declared.operation.ObjReply.{ObjReply}
-use Rattle.mlt_object_kinds.specs.Accounts.{max_balance}
 use Rattle.mlt_object_conflicts.specs.declared.accounts.AccountClass.{AccountClass}
 
 -- the class of an operation with a reply, None where the table has no such row

@@ -2,10 +2,8 @@
 use Rattle.std.specs.Prelude.{None, Some, refl}
 use Rattle.std.proofs.Common.{arith}
 use Rattle.mlt_object_kinds.specs.Accounts.{AccountStep, max_balance}
-use Rattle.mlt_object_conflicts.specs.declared.accounts.AccountClass.{AccountClass}
+use Rattle.mlt_object_conflicts.specs.{declared.accounts.AccountClass.AccountClass, AccountTable.account_class, AccountTable.account_item, Tables.HasLegalItem}
 use Rattle.mlt_object_conflicts.specs.declared.accounts.AccountClass.TheVariants.{Opened, Exists, Closed, NotEmpty, Deposited, Over, Withdrawn, Short, Balance, Missing}
-use Rattle.mlt_object_conflicts.specs.AccountTable.{account_class, account_item}
-use Rattle.mlt_object_conflicts.specs.Tables.{HasLegalItem}
 
 pub account_legal_item : (class : AccountClass) → HasLegalItem AccountStep account_class class
 account_legal_item Opened = (None, account_item Opened 0, Some 0, refl, (tt, refl))

@@ -1,15 +1,7 @@
 -- Conflicts over whole bases.
 use Rattle.std.specs.Prelude.{◌≡◌}
-use Rattle.mlt_object_kinds.specs.declared.operation.ObjOp.{ObjOp}
-use Rattle.mlt_object_kinds.specs.declared.operation.ObjOp.TheVariants.{Account, Element, Counter, Size}
-use Rattle.mlt_object_kinds.specs.declared.operation.ObjReply.{ObjReply}
-use Rattle.mlt_object_kinds.specs.Bases.{Base, Step}
-use Rattle.mlt_object_kinds.specs.Operations.{cell_of}
-use Rattle.mlt_object_conflicts.specs.AccountTable.{account_class}
-use Rattle.mlt_object_conflicts.specs.CounterTable.{counter_class}
-use Rattle.mlt_object_conflicts.specs.ElementTable.{element_class}
-use Rattle.mlt_object_conflicts.specs.Sizes.{tells_size}
-use Rattle.mlt_object_conflicts.specs.Tables.{BreaksAt}
+use Rattle.mlt_object_kinds.specs.{declared.operation.ObjOp.ObjOp, declared.operation.ObjOp.TheVariants.Account, declared.operation.ObjOp.TheVariants.Element, declared.operation.ObjOp.TheVariants.Counter, declared.operation.ObjOp.TheVariants.Size, declared.operation.ObjReply.ObjReply, Bases.Base, Bases.Step, Operations.cell_of}
+use Rattle.mlt_object_conflicts.specs.{AccountTable.account_class, CounterTable.counter_class, ElementTable.element_class, Sizes.tells_size, Tables.BreaksAt}
 
 -- they are of one kind, and of one class or of none; of sizes, both tell one or none does
 abbrev pub SameClass : ObjOp × ObjReply → ObjOp × ObjReply → Type 0

@@ -1,12 +1,7 @@
 -- Whether an operation with its reply, requested later, clashes with one that is held.
 use Rattle.std.specs.Prelude.{Bool, false, Option, Some, ◌==◌, ◌&&◌}
-use Rattle.mlt_object_kinds.specs.declared.operation.ObjOp.{ObjOp}
-use Rattle.mlt_object_kinds.specs.declared.operation.ObjOp.TheVariants.{Account, Element, Counter, Size}
-use Rattle.mlt_object_kinds.specs.declared.operation.ObjReply.{ObjReply}
-use Rattle.mlt_object_conflicts.specs.AccountTable.{account_class, account_marks}
-use Rattle.mlt_object_conflicts.specs.CounterTable.{counter_class, counter_marks}
-use Rattle.mlt_object_conflicts.specs.ElementTable.{element_class, element_marks}
-use Rattle.mlt_object_conflicts.specs.Sizes.{changes_told}
+use Rattle.mlt_object_kinds.specs.declared.operation.{ObjOp.ObjOp, ObjOp.TheVariants.Account, ObjOp.TheVariants.Element, ObjOp.TheVariants.Counter, ObjOp.TheVariants.Size, ObjReply.ObjReply}
+use Rattle.mlt_object_conflicts.specs.{AccountTable.account_class, AccountTable.account_marks, CounterTable.counter_class, CounterTable.counter_marks, ElementTable.element_class, ElementTable.element_marks, Sizes.changes_told}
 
 -- both have a class, and the classes are marked
 abbrev pub marked_classes : {C : Type 0} → (C → C → Bool) → Option C → Option C → Bool

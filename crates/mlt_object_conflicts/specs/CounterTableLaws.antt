@@ -1,10 +1,7 @@
 -- Each class of counters has an operation that is told its reply in some state.
 use Rattle.std.proofs.Common.{refl, arith}
 use Rattle.mlt_object_kinds.specs.Counters.{CounterStep}
-use Rattle.mlt_object_conflicts.specs.declared.counters.CounterClass.{CounterClass}
-use Rattle.mlt_object_conflicts.specs.declared.counters.CounterClass.TheVariants.{Counted, Read}
-use Rattle.mlt_object_conflicts.specs.CounterTable.{counter_class, counter_item}
-use Rattle.mlt_object_conflicts.specs.Tables.{HasLegalItem}
+use Rattle.mlt_object_conflicts.specs.{declared.counters.CounterClass.CounterClass, declared.counters.CounterClass.TheVariants.Counted, declared.counters.CounterClass.TheVariants.Read, CounterTable.counter_class, CounterTable.counter_item, Tables.HasLegalItem}
 
 pub counter_legal_item : (class : CounterClass) → HasLegalItem CounterStep counter_class class
 counter_legal_item Counted =

@@ -1,8 +1,6 @@
 -- The conflict table of elements of sets.
 use Rattle.std.specs.Prelude.{Bool, true, false, Option, Some, None}
-use Rattle.mlt_object_kinds.specs.declared.element.ElementOp.{ElementOp}
-use Rattle.mlt_object_kinds.specs.declared.element.ElementOp.TheVariants.{Add, Remove, Has}
-use Rattle.mlt_object_kinds.specs.declared.operation.ObjReply.{ObjReply}
+use Rattle.mlt_object_kinds.specs.declared.{element.ElementOp.ElementOp, element.ElementOp.TheVariants.Add, element.ElementOp.TheVariants.Remove, element.ElementOp.TheVariants.Has, operation.ObjReply.ObjReply}
 use Rattle.mlt_object_conflicts.specs.declared.elements.ElementClass.{ElementClass}
 
 -- the class of an operation with a reply, None where the table has no such row

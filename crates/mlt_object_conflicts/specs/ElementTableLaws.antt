@@ -1,10 +1,8 @@
 -- Each class of elements has an operation that is told its reply in some state.
 use Rattle.std.specs.Prelude.{true, false, refl}
 use Rattle.mlt_object_kinds.specs.Elements.{ElementStep}
-use Rattle.mlt_object_conflicts.specs.declared.elements.ElementClass.{ElementClass}
+use Rattle.mlt_object_conflicts.specs.{declared.elements.ElementClass.ElementClass, ElementTable.element_class, ElementTable.element_item, Tables.HasLegalItem}
 use Rattle.mlt_object_conflicts.specs.declared.elements.ElementClass.TheVariants.{Added, Present, Removed, Absent, Yes, No}
-use Rattle.mlt_object_conflicts.specs.ElementTable.{element_class, element_item}
-use Rattle.mlt_object_conflicts.specs.Tables.{HasLegalItem}
 
 pub element_legal_item : (class : ElementClass) → HasLegalItem ElementStep element_class class
 element_legal_item Added = (false, element_item Added, true, refl, (tt, refl))

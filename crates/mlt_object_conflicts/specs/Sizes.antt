@@ -2,18 +2,8 @@
 use Rattle.std.specs.Prelude.{ℕ, Bool, true, false, Option, Some}
 use Rattle.mlt_order.specs.Runs.{RightCommutesBackward}
 use Rattle.mlt_types.specs.declared.cell.Cell.{Cell}
-use Rattle.mlt_object_kinds.specs.declared.element.ElementOp.{ElementOp}
-use Rattle.mlt_object_kinds.specs.declared.operation.ObjOp.{ObjOp}
-use Rattle.mlt_object_kinds.specs.declared.operation.ObjOp.TheVariants.{Element, Size}
-use Rattle.mlt_object_kinds.specs.declared.operation.ObjReply.{ObjReply}
-use Rattle.mlt_object_kinds.specs.declared.operation.ObjReply.TheVariants.{Is}
-use Rattle.mlt_object_kinds.specs.Bases.{Base, Step, empty_base, with_state}
-use Rattle.mlt_object_kinds.specs.Cells.CellState.{ElementState}
-use Rattle.mlt_object_conflicts.specs.declared.elements.ElementClass.{ElementClass}
-use Rattle.mlt_object_conflicts.specs.declared.elements.ElementClass.TheVariants.{Added, Removed}
-use Rattle.mlt_object_conflicts.specs.declared.sizes.SizeExample.{SizeExample}
-use Rattle.mlt_object_conflicts.specs.ElementTable.{element_class}
-use Rattle.mlt_object_conflicts.specs.Tables.{BreaksAt, IsOfClass}
+use Rattle.mlt_object_kinds.specs.{declared.element.ElementOp.ElementOp, declared.operation.ObjOp.ObjOp, declared.operation.ObjOp.TheVariants.Element, declared.operation.ObjOp.TheVariants.Size, declared.operation.ObjReply.ObjReply, declared.operation.ObjReply.TheVariants.Is, Bases.Base, Bases.Step, Bases.empty_base, Bases.with_state, Cells.CellState.ElementState}
+use Rattle.mlt_object_conflicts.specs.{declared.elements.ElementClass.ElementClass, declared.elements.ElementClass.TheVariants.Added, declared.elements.ElementClass.TheVariants.Removed, declared.sizes.SizeExample.SizeExample, ElementTable.element_class, Tables.BreaksAt, Tables.IsOfClass}
 
 -- an operation of the class changes the size of its set
 abbrev pub counts : ElementClass → Bool

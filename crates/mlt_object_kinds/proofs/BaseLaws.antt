@@ -1,24 +1,10 @@
 -- The laws of whole bases: what the cells hold is the base, and a step has one answer and one start.
 use Rattle.std.proofs.Common.{◌≡◌, ◌≢◌, ◌⊎◌, inl, inr, ℕ, zero, suc, Bool, true, false, cond, Option, None, Some, is_some, refl, sym, ap, subst, ◌∙◌, arith, nat_cmp, is_eq}
-use Rattle.std.proofs.lemmas.Bool.{cases_eq}
-use Rattle.std.proofs.lemmas.Cmp.{on_total, then_total, tied_itself}
-use Rattle.std.specs.declared.cmp.Ordering.{Ordering}
-use Rattle.std.specs.declared.cmp.Ordering.TheVariants.{Less, Equal, Greater}
-use Rattle.std.specs.Ordering.{ordering_then, eq_by_cmp}
-use Rattle.std.specs.Cmp.{IsTotalOrder, nat_cmp_total}
+use Rattle.std.{proofs.lemmas.Bool.cases_eq, proofs.lemmas.Cmp.on_total, proofs.lemmas.Cmp.then_total, proofs.lemmas.Cmp.tied_itself, specs.declared.cmp.Ordering.Ordering, specs.declared.cmp.Ordering.TheVariants.Less, specs.declared.cmp.Ordering.TheVariants.Equal, specs.declared.cmp.Ordering.TheVariants.Greater, specs.Ordering.ordering_then, specs.Ordering.eq_by_cmp, specs.Cmp.IsTotalOrder, specs.Cmp.nat_cmp_total}
 use Rattle.std.specs.FinMap as map
-use Rattle.mlt_types.specs.declared.cell.Cell.{Cell}
-use Rattle.mlt_types.specs.declared.cell.Cell.TheVariants.{Account, Element, Counter, Size}
-use Rattle.mlt_types.specs.Maps.{with_entry}
-use Rattle.mlt_object_kinds.specs.declared.operation.ObjOp.{ObjOp}
-use Rattle.mlt_object_kinds.specs.declared.operation.ObjReply.{ObjReply}
-use Rattle.mlt_object_kinds.specs.AccountLaws.{account_one_answer, account_one_start}
+use Rattle.mlt_types.specs.{declared.cell.Cell.Cell, declared.cell.Cell.TheVariants.Account, declared.cell.Cell.TheVariants.Element, declared.cell.Cell.TheVariants.Counter, declared.cell.Cell.TheVariants.Size, Maps.with_entry}
+use Rattle.mlt_object_kinds.specs.{declared.operation.ObjOp.ObjOp, declared.operation.ObjReply.ObjReply, AccountLaws.account_one_answer, AccountLaws.account_one_start, Cells.CellState, Cells.CellStep, Cells.CellState.AccountState, Cells.CellState.ElementState, Cells.CellState.CounterState, Cells.CellState.NoState, CounterLaws.counter_one_answer, CounterLaws.counter_one_start, ElementLaws.element_one_answer, ElementLaws.element_one_start, Operations.cell_of}
 use Rattle.mlt_object_kinds.specs.Bases.{Base, Step, TellsSize, counter_entry, counter_value, element_cmp, element_entry, state_at, with_state}
-use Rattle.mlt_object_kinds.specs.Cells.{CellState, CellStep}
-use Rattle.mlt_object_kinds.specs.Cells.CellState.{AccountState, ElementState, CounterState, NoState}
-use Rattle.mlt_object_kinds.specs.CounterLaws.{counter_one_answer, counter_one_start}
-use Rattle.mlt_object_kinds.specs.ElementLaws.{element_one_answer, element_one_start}
-use Rattle.mlt_object_kinds.specs.Operations.{cell_of}
 
 -- ---- orders and keys
 

@@ -2,17 +2,10 @@
 -- that do so on their one cell.
 use Rattle.std.proofs.Common.{◌≡◌, ◌≢◌, inl, inr, ℕ, ◌≤◌, length, Contains, refl, sym, ap, subst, ◌∙◌, arith}
 use Rattle.mlt_types.specs.declared.cell.Cell.{Cell}
-use Rattle.mlt_object_kinds.specs.declared.element.ElementOp.TheVariants.{Add, Remove}
-use Rattle.mlt_object_kinds.specs.declared.operation.ObjOp.{ObjOp}
-use Rattle.mlt_object_kinds.specs.declared.operation.ObjReply.{ObjReply}
-use Rattle.mlt_object_kinds.specs.declared.operation.ObjReply.TheVariants.{Is}
+use Rattle.mlt_object_kinds.{specs.declared.element.ElementOp.TheVariants.Add, specs.declared.element.ElementOp.TheVariants.Remove, specs.declared.operation.ObjOp.ObjOp, specs.declared.operation.ObjReply.ObjReply, specs.declared.operation.ObjReply.TheVariants.Is, specs.Cells.CellStep, specs.Operations.AreApart, specs.Operations.cell_of, specs.Operations.cells_of, specs.Sizes.put_into, specs.Sizes.taken_from, proofs.Sizes.other_set_untouched, proofs.Sizes.size_after_step}
 use Rattle.mlt_object_kinds.specs.Bases.{Base, Step, TellsSize, size_at, state_at, with_state}
-use Rattle.mlt_object_kinds.specs.Cells.{CellStep}
-use Rattle.mlt_object_kinds.specs.Operations.{AreApart, cell_of, cells_of}
 use Rattle.mlt_order.specs.Runs.{RightCommutesBackward}
-use Rattle.mlt_object_kinds.specs.Sizes.{put_into, taken_from}
 use Rattle.mlt_object_kinds.proofs.BaseLaws.{cell_step_states, one_cell_or_two, state_beside, state_here, step_to}
-use Rattle.mlt_object_kinds.proofs.Sizes.{other_set_untouched, size_after_step}
 
 -- ---- sizes that are told
 

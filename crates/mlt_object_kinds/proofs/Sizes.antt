@@ -1,21 +1,10 @@
 -- The sizes of sets: what a step does to them, and how great they can be.
 use Rattle.std.proofs.Common.{◌≡◌, ◌≢◌, ◌⊎◌, inl, inr, ℕ, zero, suc, ◌+◌, ◌-◌, ◌<◌, ◌≤◌, Bool, true, false, cond, Option, None, Some, is_some, nat_eq, refl, sym, ap, subst, ◌∙◌, arith, eq-eqb, ne_eqb}
-use Rattle.std.proofs.lemmas.Bool.{cases_eq}
-use Rattle.std.proofs.lemmas.Cmp.{tied_itself}
-use Rattle.std.specs.declared.cmp.Ordering.{Ordering}
-use Rattle.std.specs.declared.cmp.Ordering.TheVariants.{Less, Equal, Greater}
-use Rattle.std.specs.Cmp.{IsTotalOrder}
+use Rattle.std.{proofs.lemmas.Bool.cases_eq, proofs.lemmas.Cmp.tied_itself, specs.declared.cmp.Ordering.Ordering, specs.declared.cmp.Ordering.TheVariants.Less, specs.declared.cmp.Ordering.TheVariants.Equal, specs.declared.cmp.Ordering.TheVariants.Greater, specs.Cmp.IsTotalOrder}
 use Rattle.std.specs.FinMap as map
-use Rattle.mlt_types.specs.declared.cell.Cell.TheVariants.{Element}
-use Rattle.mlt_types.specs.Maps.{with_entry}
-use Rattle.mlt_object_kinds.specs.declared.element.ElementOp.{ElementOp}
-use Rattle.mlt_object_kinds.specs.declared.element.ElementOp.TheVariants.{Add, Remove, Has}
-use Rattle.mlt_object_kinds.specs.declared.operation.ObjOp.{ObjOp}
-use Rattle.mlt_object_kinds.specs.declared.operation.ObjReply.{ObjReply}
+use Rattle.mlt_types.specs.{declared.cell.Cell.TheVariants.Element, Maps.with_entry}
+use Rattle.mlt_object_kinds.specs.{declared.element.ElementOp.ElementOp, declared.element.ElementOp.TheVariants.Add, declared.element.ElementOp.TheVariants.Remove, declared.element.ElementOp.TheVariants.Has, declared.operation.ObjOp.ObjOp, declared.operation.ObjReply.ObjReply, Cells.CellState.ElementState, Elements.ElementStep, Sizes.put_into, Sizes.taken_from}
 use Rattle.mlt_object_kinds.specs.Bases.{Base, Step, element_at, element_cmp, element_entry, empty_base, size_at, with_state}
-use Rattle.mlt_object_kinds.specs.Cells.CellState.{ElementState}
-use Rattle.mlt_object_kinds.specs.Elements.{ElementStep}
-use Rattle.mlt_object_kinds.specs.Sizes.{put_into, taken_from}
 use Rattle.mlt_object_kinds.proofs.BaseLaws.{element_cmp_tells_apart, element_cmp_total, element_entry_is, entry_beside, entry_here, same_element, step_is}
 
 -- ---- maps: how many entries there are whose keys pass a test

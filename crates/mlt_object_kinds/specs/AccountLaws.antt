@@ -1,10 +1,6 @@
 -- The laws of the table of accounts: one answer, one start, and states stay in range.
 use Rattle.std.proofs.Common.{◌≡◌, ℕ, ◌+◌, Option, None, Some, refl, sym, ◌∙◌, ap, subst, arith}
-use Rattle.mlt_object_kinds.specs.declared.account.AccountOp.{AccountOp}
-use Rattle.mlt_object_kinds.specs.declared.account.AccountOp.TheVariants.{Open}
-use Rattle.mlt_object_kinds.specs.declared.operation.ObjReply.{ObjReply}
-use Rattle.mlt_object_kinds.specs.declared.operation.ObjReply.TheVariants.{Opened}
-use Rattle.mlt_object_kinds.specs.Accounts.{AccountStep, IsAccount, IsLegalOnAccount, account_after}
+use Rattle.mlt_object_kinds.specs.{declared.account.AccountOp.AccountOp, declared.account.AccountOp.TheVariants.Open, declared.operation.ObjReply.ObjReply, declared.operation.ObjReply.TheVariants.Opened, Accounts.AccountStep, Accounts.IsAccount, Accounts.IsLegalOnAccount, Accounts.account_after}
 
 abbrev OneReply : Option ℕ → AccountOp → ObjReply → ObjReply → Type 0
 OneReply s o r q = IsLegalOnAccount o r s → IsLegalOnAccount o q s → r ≡ q

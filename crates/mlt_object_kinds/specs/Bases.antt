@@ -1,19 +1,10 @@
 -- Bases: what all cells hold, without pages; and the runs of operations over them.
 use Rattle.std.specs.Prelude.{◌≡◌, ◌≢◌, ◌==◌, ℕ, zero, suc, ◌+◌, Bool, true, false, Option, None, Some, is_some, List, [], ◌∷◌, refl}
-use Rattle.std.specs.declared.cmp.Ordering.{Ordering}
-use Rattle.std.specs.Ordering.{nat_cmp, ordering_then}
-use Rattle.std.specs.Coded.{Coded, code_by, coded_ℕ, coded×}
+use Rattle.std.specs.{declared.cmp.Ordering.Ordering, Ordering.nat_cmp, Ordering.ordering_then, Coded.Coded, Coded.code_by, Coded.coded_ℕ, Coded.coded×}
 use Rattle.std.specs.FinMap as map
 use Rattle.std.specs.FinSet as set
-use Rattle.mlt_types.specs.declared.cell.Cell.{Cell}
-use Rattle.mlt_types.specs.declared.cell.Cell.TheVariants.{Account, Element, Counter, Size}
-use Rattle.mlt_types.specs.Maps.{with_entry}
-use Rattle.mlt_object_kinds.specs.declared.operation.ObjOp.{ObjOp}
-use Rattle.mlt_object_kinds.specs.declared.operation.ObjReply.{ObjReply}
-use Rattle.mlt_object_kinds.specs.declared.operation.ObjReply.TheVariants.{Is}
-use Rattle.mlt_object_kinds.specs.Cells.{CellState, CellStep}
-use Rattle.mlt_object_kinds.specs.Cells.CellState.{AccountState, ElementState, CounterState, NoState}
-use Rattle.mlt_object_kinds.specs.Operations.{cell_of}
+use Rattle.mlt_types.specs.{declared.cell.Cell.Cell, declared.cell.Cell.TheVariants.Account, declared.cell.Cell.TheVariants.Element, declared.cell.Cell.TheVariants.Counter, declared.cell.Cell.TheVariants.Size, Maps.with_entry}
+use Rattle.mlt_object_kinds.specs.{declared.operation.ObjOp.ObjOp, declared.operation.ObjReply.ObjReply, declared.operation.ObjReply.TheVariants.Is, Cells.CellState, Cells.CellStep, Cells.CellState.AccountState, Cells.CellState.ElementState, Cells.CellState.CounterState, Cells.CellState.NoState, Operations.cell_of}
 
 -- elements by their sets, and in one set by their numbers
 abbrev pub element_cmp : ℕ × ℕ → ℕ × ℕ → Ordering

@@ -1,12 +1,6 @@
 -- What one cell holds, and the steps of one cell.
 use Rattle.std.specs.Prelude.{ℕ, Option, Bool}
-use Rattle.mlt_object_kinds.specs.declared.operation.ObjOp.{ObjOp}
-use Rattle.mlt_object_kinds.specs.declared.operation.ObjOp.TheVariants.{Account, Element, Counter, Size}
-use Rattle.mlt_object_kinds.specs.declared.operation.ObjReply.{ObjReply}
-use Rattle.mlt_object_kinds.specs.declared.operation.ObjReply.TheVariants.{Is}
-use Rattle.mlt_object_kinds.specs.Accounts.{AccountStep}
-use Rattle.mlt_object_kinds.specs.Counters.{CounterStep}
-use Rattle.mlt_object_kinds.specs.Elements.{ElementStep}
+use Rattle.mlt_object_kinds.specs.{declared.operation.ObjOp.ObjOp, declared.operation.ObjOp.TheVariants.Account, declared.operation.ObjOp.TheVariants.Element, declared.operation.ObjOp.TheVariants.Counter, declared.operation.ObjOp.TheVariants.Size, declared.operation.ObjReply.ObjReply, declared.operation.ObjReply.TheVariants.Is, Accounts.AccountStep, Counters.CounterStep, Elements.ElementStep}
 
 -- What a cell holds: the balance of an account that is there, whether an element is in its set, the value of a counter.
 -- The cell of a set's size holds nothing of its own: the size is that of the set.

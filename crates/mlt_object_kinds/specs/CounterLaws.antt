@@ -1,10 +1,6 @@
 -- The laws of the table of counters: one answer, one start, and states stay in range.
 use Rattle.std.proofs.Common.{◌≡◌, ℕ, ◌+◌, ◌-◌, ◌<◌, ◌^◌, ◌%◌, refl, sym, ◌∙◌, ap, subst, arith}
-use Rattle.mlt_object_kinds.specs.declared.counter.CounterOp.{CounterOp}
-use Rattle.mlt_object_kinds.specs.declared.counter.CounterOp.TheVariants.{Up, Down, Read}
-use Rattle.mlt_object_kinds.specs.declared.operation.ObjReply.{ObjReply}
-use Rattle.mlt_object_kinds.specs.declared.operation.ObjReply.TheVariants.{Done, Is}
-use Rattle.mlt_object_kinds.specs.Counters.{CounterStep, IsCounter, IsLegalOnCounter, counter_after}
+use Rattle.mlt_object_kinds.specs.{declared.counter.CounterOp.CounterOp, declared.counter.CounterOp.TheVariants.Up, declared.counter.CounterOp.TheVariants.Down, declared.counter.CounterOp.TheVariants.Read, declared.operation.ObjReply.ObjReply, declared.operation.ObjReply.TheVariants.Done, declared.operation.ObjReply.TheVariants.Is, Counters.CounterStep, Counters.IsCounter, Counters.IsLegalOnCounter, Counters.counter_after}
 
 -- what an operation is told
 abbrev reply_of : CounterOp → ℕ → ObjReply

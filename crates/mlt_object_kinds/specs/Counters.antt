@@ -1,9 +1,6 @@
 -- The table of counters. A state is the value, which is counted modulo 2^64.
 use Rattle.std.specs.Prelude.{◌≡◌, ℕ, ◌+◌, ◌-◌, ◌<◌, ◌^◌, ◌%◌}
-use Rattle.mlt_object_kinds.specs.declared.counter.CounterOp.{CounterOp}
-use Rattle.mlt_object_kinds.specs.declared.counter.CounterOp.TheVariants.{Up, Down, Read}
-use Rattle.mlt_object_kinds.specs.declared.operation.ObjReply.{ObjReply}
-use Rattle.mlt_object_kinds.specs.declared.operation.ObjReply.TheVariants.{Done, Is}
+use Rattle.mlt_object_kinds.specs.declared.{counter.CounterOp.CounterOp, counter.CounterOp.TheVariants.Up, counter.CounterOp.TheVariants.Down, counter.CounterOp.TheVariants.Read, operation.ObjReply.ObjReply, operation.ObjReply.TheVariants.Done, operation.ObjReply.TheVariants.Is}
 
 -- a value in range
 abbrev pub IsCounter : ℕ → Type 0

@@ -1,10 +1,7 @@
 -- The laws of the table of elements: one answer, one start, and states stay in range.
 use Rattle.std.proofs.Common.{◌≡◌, Bool, true, false, refl, sym, ◌∙◌, ap}
-use Rattle.mlt_object_kinds.specs.declared.element.ElementOp.{ElementOp}
-use Rattle.mlt_object_kinds.specs.declared.element.ElementOp.TheVariants.{Add, Remove, Has}
-use Rattle.mlt_object_kinds.specs.declared.operation.ObjReply.{ObjReply}
+use Rattle.mlt_object_kinds.specs.{declared.element.ElementOp.ElementOp, declared.element.ElementOp.TheVariants.Add, declared.element.ElementOp.TheVariants.Remove, declared.element.ElementOp.TheVariants.Has, declared.operation.ObjReply.ObjReply, Elements.ElementStep, Elements.IsElement, Elements.IsLegalOnElement, Elements.element_after}
 use Rattle.mlt_object_kinds.specs.declared.operation.ObjReply.TheVariants.{Added, Present, Removed, Absent, Yes, No}
-use Rattle.mlt_object_kinds.specs.Elements.{ElementStep, IsElement, IsLegalOnElement, element_after}
 
 -- what an operation is told
 abbrev reply_of : ElementOp → Bool → ObjReply

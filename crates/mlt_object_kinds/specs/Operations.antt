@@ -1,9 +1,7 @@
 -- Operations, the cells that they are on, and those on which they are locked.
 use Rattle.std.specs.Prelude.{List, [], ◌∷◌, Contains}
 use Rattle.mlt_types.specs.declared.cell.Cell.{Cell}
-use Rattle.mlt_object_kinds.specs.declared.operation.ObjOp.{ObjOp}
-use Rattle.mlt_object_kinds.specs.declared.operation.ObjOp.TheVariants.{Account, Element, Counter, Size}
-use Rattle.mlt_object_kinds.specs.declared.element.ElementOp.TheVariants.{Add, Remove}
+use Rattle.mlt_object_kinds.specs.declared.{operation.ObjOp.ObjOp, operation.ObjOp.TheVariants.Account, operation.ObjOp.TheVariants.Element, operation.ObjOp.TheVariants.Counter, operation.ObjOp.TheVariants.Size, element.ElementOp.TheVariants.Add, element.ElementOp.TheVariants.Remove}
 
 -- the cell that an operation is on
 abbrev pub cell_of : ObjOp → Cell

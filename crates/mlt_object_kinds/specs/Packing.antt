@@ -1,15 +1,7 @@
 -- The parts of operations and replies. A part that an operation or a reply does not have is 0.
 use Rattle.std.specs.Prelude.{ℕ}
-use Rattle.mlt_object_kinds.specs.declared.account.AccountOp.{AccountOp}
-use Rattle.mlt_object_kinds.specs.declared.element.ElementOp.{ElementOp}
-use Rattle.mlt_object_kinds.specs.declared.counter.CounterOp.{CounterOp}
-use Rattle.mlt_object_kinds.specs.declared.operation.ObjOp.{ObjOp}
-use Rattle.mlt_object_kinds.specs.declared.operation.ObjOp.TheVariants.{Account, Element, Counter}
-use Rattle.mlt_object_kinds.specs.declared.operation.ObjReply.{ObjReply}
-use Rattle.mlt_object_kinds.specs.declared.packed.OpKind.{OpKind}
+use Rattle.mlt_object_kinds.specs.declared.{account.AccountOp.AccountOp, element.ElementOp.ElementOp, counter.CounterOp.CounterOp, operation.ObjOp.ObjOp, operation.ObjOp.TheVariants.Account, operation.ObjOp.TheVariants.Element, operation.ObjOp.TheVariants.Counter, operation.ObjReply.ObjReply, packed.OpKind.OpKind, packed.ReplyKind.ReplyKind, packed.Packed.Packed}
 use Rattle.mlt_object_kinds.specs.declared.packed.OpKind.TheVariants.{Open, Close, Deposit, Withdraw, Balance, Add, Remove, Has, Up, Down, Read, Size}
-use Rattle.mlt_object_kinds.specs.declared.packed.ReplyKind.{ReplyKind}
-use Rattle.mlt_object_kinds.specs.declared.packed.Packed.{Packed}
 use Rattle.mlt_object_kinds.specs.declared.packed.ReplyKind.TheVariants.{Opened, Exists, Closed, NotEmpty, Done, Over, Short, Missing, Added, Present, Removed, Absent, Yes, No, Is}
 
 -- the operation of this kind, with what it has of a set, a number and an amount

@@ -1,10 +1,6 @@
 -- What operations do to the sizes of sets.
 use Rattle.std.specs.Prelude.{ℕ, if◌then◌else◌, ◌==◌}
-use Rattle.mlt_object_kinds.specs.declared.element.ElementOp.TheVariants.{Add, Remove}
-use Rattle.mlt_object_kinds.specs.declared.operation.ObjOp.{ObjOp}
-use Rattle.mlt_object_kinds.specs.declared.operation.ObjOp.TheVariants.{Element}
-use Rattle.mlt_object_kinds.specs.declared.operation.ObjReply.{ObjReply}
-use Rattle.mlt_object_kinds.specs.declared.operation.ObjReply.TheVariants.{Added, Removed}
+use Rattle.mlt_object_kinds.specs.declared.{element.ElementOp.TheVariants.Add, element.ElementOp.TheVariants.Remove, operation.ObjOp.ObjOp, operation.ObjOp.TheVariants.Element, operation.ObjReply.ObjReply, operation.ObjReply.TheVariants.Added, operation.ObjReply.TheVariants.Removed}
 
 -- how many elements an operation with its reply puts into a set
 abbrev pub put_into : ℕ → ObjOp × ObjReply → ℕ

@@ -1,8 +1,7 @@
 -- What coming, being granted and giving up at one place, and at one place more, leaves at each.
 use Rattle.std.proofs.Common.{◌≡◌, ◌≢◌, ◌⊎◌, ℕ, List, [], ◌∷◌, ◌++◌, true, nat_eq, Option, Some, Contains, sym, subst, refl, inl, inr, arith, filter}
 use Rattle.mlt_object_locks.proofs.Names.{cases_eq, nat_tests, Contains-append_left, Contains-push, Contains-push_cases, IndexMap, IsUnique, Holder, Grants, HasBit, IsHere, Joins, holder_of, is_not_idle_of, ChangesAt, GivesUp, GrantsAt, IsGivenUp, IsHereAt, JoinsAt, list_at, KeysWithRoom, NotesEach, SameNoted, noted_of}
-use Rattle.mlt_object_locks.specs.Cells.{AreBitsNoted}
-use Rattle.mlt_object_locks.proofs.Membership.{contains_filtered, filter_contains, none_in_empty}
+use Rattle.mlt_object_locks.{specs.Cells.AreBitsNoted, proofs.Membership.contains_filtered, proofs.Membership.filter_contains, proofs.Membership.none_in_empty}
 
 not_idle : (tx : ℕ) (holder : Holder) → is_not_idle_of tx holder ≡ true → holder.tx ≡ tx → holder.classes ≢ 0
 not_idle tx holder h own none = grind (arith, nat_tests)

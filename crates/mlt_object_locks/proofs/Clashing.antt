@@ -1,8 +1,7 @@
 -- Who stands against a requested operation at a place where it looks holds one with which it clashes, and back.
 use Rattle.std.proofs.Common.{◌≡◌, ◌⊎◌, ℕ, List, [], ◌∷◌, ◌++◌, Option, None, Some, Contains, sym, subst, inl, inr}
 use Rattle.mlt_object_locks.proofs.Names.{Contains-append_left, Contains-push, Contains-push_cases, IndexMap, Cell, IsInRange, cell_of, ObjOp, ObjReply, Holder, Held, HoldsClash, IsLowestOf, lower_of, StandsAgainst, KeysWithRoom, IsSound, StandsAtOne, list_at, looked_at}
-use Rattle.mlt_object_locks.proofs.ClassLaws.{clash_hinders, hindered_clash, share_place}
-use Rattle.mlt_object_locks.proofs.Lowest.{lowest_of_both, lowest_of_first, same_lowest}
+use Rattle.mlt_object_locks.proofs.{ClassLaws.clash_hinders, ClassLaws.hindered_clash, ClassLaws.share_place, Lowest.lowest_of_both, Lowest.lowest_of_first, Lowest.same_lowest}
 
 module _ {S : Type 0} (cells : IndexMap ℕ (List Holder) S) (reserved : List (ℕ × Cell)) (noted : List (ℕ × KeysWithRoom)) (held : List Held) (is : IsSound cells reserved noted held) (tx : ℕ) (requested : ObjOp × ObjReply) (range : IsInRange (cell_of requested.0)) where
   abbrev Here : ℕ → Type 0

@@ -1,26 +1,12 @@
 -- Each class has a bit of its own, and clashes on one cell are told by classes.
 use Rattle.std.proofs.Common.{◌≡◌, ◌⊎◌, ℕ, ◌<◌, Bool, true, false, ◌≤◌, List, [], ◌∷◌, ◌++◌, map, Option, Some, None, Contains, get_or, length, sym, ap, subst, refl, ◌∙◌, true≢false, inl, inr, arith, option_map, eq-eqb, ne_eqb}
-use Rattle.std.proofs.lemmas.List.{get_or_past}
+use Rattle.std.proofs.lemmas.{List.get_or_past, Bool.cases_lt}
 use Rattle.mlt_object_locks.proofs.Names.{Contains-push_cases, cases_eq, Cell, IsInRange, ObjOp, ObjReply, cell_of, CLASSES, bit_of, bit_of_item, Adds, AreInTheWay, InSet, looked_at, places_of}
-use Rattle.std.proofs.lemmas.Bool.{cases_lt}
 use Rattle.mlt_types.specs.Cells.{key_number}
-use Rattle.mlt_object_kinds.specs.declared.element.ElementOp.{ElementOp}
-use Rattle.mlt_object_kinds.specs.declared.element.ElementOp.TheVariants.{Add, Remove, Has}
-use Rattle.mlt_object_kinds.specs.Operations.{size_cells}
-use Rattle.mlt_object_conflicts.specs.Clashes.{clashes, marked_classes}
-use Rattle.mlt_object_conflicts.specs.declared.accounts.AccountClass.{AccountClass}
-use Rattle.mlt_object_conflicts.specs.declared.elements.ElementClass.{ElementClass}
-use Rattle.mlt_object_conflicts.specs.declared.counters.CounterClass.{CounterClass}
-use Rattle.mlt_object_conflicts.specs.AccountTable.{account_class, account_marks}
-use Rattle.mlt_object_conflicts.specs.CounterTable.{counter_class, counter_marks}
-use Rattle.mlt_object_conflicts.specs.ElementTable.{element_class, element_marks}
-use Rattle.mlt_object_conflicts.specs.Sizes.{changes_told, counts}
-use Rattle.mlt_object_locks.specs.declared.classes.Class.{Class}
-use Rattle.mlt_object_locks.specs.declared.classes.Class.TheVariants.{Account, Element, Counter, Size}
+use Rattle.mlt_object_kinds.specs.{declared.element.ElementOp.ElementOp, declared.element.ElementOp.TheVariants.Add, declared.element.ElementOp.TheVariants.Remove, declared.element.ElementOp.TheVariants.Has, Operations.size_cells}
+use Rattle.mlt_object_conflicts.specs.{Clashes.clashes, Clashes.marked_classes, declared.accounts.AccountClass.AccountClass, declared.elements.ElementClass.ElementClass, declared.counters.CounterClass.CounterClass, AccountTable.account_class, AccountTable.account_marks, CounterTable.counter_class, CounterTable.counter_marks, ElementTable.element_class, ElementTable.element_marks, Sizes.changes_told, Sizes.counts}
+use Rattle.mlt_object_locks.{specs.declared.classes.Class.Class, specs.declared.classes.Class.TheVariants.Account, specs.declared.classes.Class.TheVariants.Element, specs.declared.classes.Class.TheVariants.Counter, specs.declared.classes.Class.TheVariants.Size, specs.Places.place_of_set, specs.Places.SharesPlace, proofs.Bits.none_in_set, proofs.Membership.contains_first, proofs.Membership.contains_later, proofs.Membership.one_of_two, proofs.Membership.the_one}
 use Rattle.mlt_object_locks.specs.Classes.{class_of, marks, size_class, Hinders, IsColumn}
-use Rattle.mlt_object_locks.specs.Places.{place_of_set, SharesPlace}
-use Rattle.mlt_object_locks.proofs.Bits.{none_in_set}
-use Rattle.mlt_object_locks.proofs.Membership.{contains_first, contains_later, one_of_two, the_one}
 
 -- a class stands at its bit in the list of all
 at_its_bit : (class d : Class) → get_or CLASSES (bit_of class) d ≡ class

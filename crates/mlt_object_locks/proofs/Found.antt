@@ -1,11 +1,8 @@
 -- A place that was found in the map, by its index there.
 use Rattle.mlt_object_locks.proofs.Names.{zero, list_all, nat_tests, IndexMap, IsUnique, Updates, Holder, is_of, is_not_of, ChangesAt, list_at}
 use Rattle.std.proofs.Common.{◌≡◌, ℕ, suc, List, [], ◌∷◌, true, false, Some, nat_eq, slice_get, sym, ap, subst, refl, ◌∙◌, true≢false, arith, unwrap_or, filter}
-use Rattle.std.specs.Cmp.{nat_eq_equiv}
-use Rattle.std.specs.List.{IsDistinct}
-use Rattle.std.specs.Map.{lookup_key, values_of}
-use Rattle.indexmap.specs.IndexMap.{get, values, with_value_at}
-use Rattle.indexmap.proofs.CallerLemmas.{keys-with_value_at, updates-with_value_at}
+use Rattle.std.specs.{Cmp.nat_eq_equiv, List.IsDistinct, Map.lookup_key, Map.values_of}
+use Rattle.indexmap.{specs.IndexMap.get, specs.IndexMap.values, specs.IndexMap.with_value_at, proofs.CallerLemmas.keys-with_value_at, proofs.CallerLemmas.updates-with_value_at}
 use Rattle.mlt_object_locks.proofs.Entries.{differ}
 
 pub same_some : {A : Type 0} {x y : A} → Some x ≡ Some y → x ≡ y

@@ -1,9 +1,7 @@
 -- What a list contains: one more in front, a filter, and a place that is set.
 use Rattle.mlt_object_locks.proofs.Names.{zero, list_all, list_any, cases_eq, nat_tests, get_or_default, Contains-append_left, Contains-push, Contains-push_cases, Contains-get_or}
 use Rattle.std.proofs.Common.{◌≡◌, ◌≢◌, ◌⊎◌, ℕ, suc, ◌<◌, List, [], ◌∷◌, Bool, true, false, cond, ◌&&◌, ◌||◌, Some, None, nat_eq, Contains, take, drop, take-append-drop, length, get_or, set, length-set, sym, ap, subst, ◌∙◌, refl, true≢false, inl, inr, arith, filter, position, get_or-set_same, get_or-set_other}
-use Rattle.std.specs.List.{position_or_len}
-use Rattle.std.specs.List.Retain.{RetainsInTurn}
-use Rattle.std.proofs.lemmas.List.Elements.{Contains-append_cases, Contains-append_right}
+use Rattle.std.{specs.List.position_or_len, specs.List.Retain.RetainsInTurn, proofs.lemmas.List.Elements.Contains-append_cases, proofs.lemmas.List.Elements.Contains-append_right}
 
 module _ {X : Type 0} where
   pub none_in_empty : (y : X) → Contains [] y → ⊥

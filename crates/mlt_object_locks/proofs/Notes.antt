@@ -1,8 +1,7 @@
 -- The places that are noted of each transaction.
 use Rattle.std.proofs.Common.{◌≡◌, ◌≢◌, ◌⊎◌, ℕ, ◌+◌, ◌≤◌, List, [], ◌∷◌, ◌++◌, Bool, true, false, cond, not, nat_eq, Contains, length, length-append, sym, ap, subst, refl, ◌∙◌, true≢false, inl, inr, arith, filter}
 use Rattle.mlt_object_locks.proofs.Names.{cases_eq, nat_tests, Contains-push, Contains-push_cases, Contains-append_left, Held, is_of_other, KeepsNoted, KeysWithRoom, NotesEach, SameNoted, held_count, noted_of}
-use Rattle.mlt_object_locks.specs.Noted.{NotesAtMost, is_held_by}
-use Rattle.mlt_object_locks.proofs.Membership.{none_in_empty}
+use Rattle.mlt_object_locks.{specs.Noted.NotesAtMost, specs.Noted.is_held_by, proofs.Membership.none_in_empty}
 
 -- a place more is noted
 pub notes_one : (old : List ℕ) (new : List ℕ) (key : ℕ) → new ≡ old ++ key ∷ [] → NotesAtMost old new key

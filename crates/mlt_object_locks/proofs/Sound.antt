@@ -2,11 +2,7 @@
 use Rattle.std.proofs.Common.{◌≡◌, ◌≢◌, ◌⊎◌, ℕ, ◌*◌, ◌≤◌, List, [], ◌∷◌, ◌++◌, nat_eq, Some, None, length, Contains, refl, sym, ap, subst, ◌∙◌, inl, inr, arith, filter}
 use Rattle.mlt_object_locks.proofs.Names.{cases_eq, nat_tests, Contains-append_left, Contains-push, Contains-push_cases, IndexMap, IsUnique, Cell, IsInRange, cell_of, ObjOp, ObjReply, Holder, Held, SameReservations, is_of_other, reservation_of, InSet, bit_of_item, HasBit, IsHere, holder_of, GivesUp, GrantsAt, IsGivenUp, IsHereAt, IsSound, JoinsAt, ReleasesAt, list_at, KeepsNoted, KeysWithRoom, NotesEach, SameNoted, held_count, noted_of, places_if_any, places_of, reserved_places}
 use Rattle.mlt_types.specs.declared.cell.Cell.TheVariants.{Account, Element, Counter, Size}
-use Rattle.mlt_object_locks.specs.Cells.{HoldsBit}
-use Rattle.mlt_object_locks.proofs.Bits.{none_in_set, some_bit}
-use Rattle.mlt_object_locks.proofs.Changes.{bits_noted_more}
-use Rattle.mlt_object_locks.proofs.Membership.{among_or_not, contains_filtered, filter_contains, none_in_empty}
-use Rattle.mlt_object_locks.proofs.Notes.{count_of_others, count_pushed_le, count_pushed_same}
+use Rattle.mlt_object_locks.{specs.Cells.HoldsBit, proofs.Bits.none_in_set, proofs.Bits.some_bit, proofs.Changes.bits_noted_more, proofs.Membership.among_or_not, proofs.Membership.contains_filtered, proofs.Membership.filter_contains, proofs.Membership.none_in_empty, proofs.Notes.count_of_others, proofs.Notes.count_pushed_le, proofs.Notes.count_pushed_same}
 
 -- what is noted, where at least as much is noted
 pub still_noted : (old : List (ℕ × KeysWithRoom)) (new : List (ℕ × KeysWithRoom)) (u k : ℕ) → (noted_of new u).keys ≡ (noted_of old u).keys → Contains (noted_of old u).keys k → Contains (noted_of new u).keys k

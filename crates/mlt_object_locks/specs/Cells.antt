@@ -1,17 +1,9 @@
 -- The holders at all places, and what ties them to what is held, reserved and noted.
 use Rattle.std.specs.Prelude.{ℕ, ◌≡◌, ◌≢◌, ◌*◌, ◌≤◌, ◌⊎◌, nat_eq, List, [], Option, Some, unwrap_or, length, Contains}
 use Rattle.indexmap.specs.IndexMap.{IndexMap, IsUnique, get}
-use Rattle.mlt_types.specs.declared.cell.Cell.{Cell}
-use Rattle.mlt_types.specs.Cells.{IsInRange}
-use Rattle.mlt_object_kinds.specs.declared.operation.ObjOp.{ObjOp}
-use Rattle.mlt_object_kinds.specs.declared.operation.ObjReply.{ObjReply}
-use Rattle.mlt_object_kinds.specs.Operations.{cell_of}
-use Rattle.mlt_object_locks.specs.declared.holders.Holder.{Holder}
-use Rattle.mlt_object_locks.specs.Locks.{Held, reservation_of}
-use Rattle.mlt_object_locks.specs.Classes.{bit_of_item}
-use Rattle.mlt_object_locks.specs.Holders.{IsHere, HasBit, StandsAgainst, holder_of}
-use Rattle.mlt_object_locks.specs.Noted.{KeysWithRoom, held_count, noted_of}
-use Rattle.mlt_object_locks.specs.Places.{places_of, reserved_places}
+use Rattle.mlt_types.specs.{declared.cell.Cell.Cell, Cells.IsInRange}
+use Rattle.mlt_object_kinds.specs.{declared.operation.ObjOp.ObjOp, declared.operation.ObjReply.ObjReply, Operations.cell_of}
+use Rattle.mlt_object_locks.specs.{declared.holders.Holder.Holder, Locks.Held, Locks.reservation_of, Classes.bit_of_item, Holders.IsHere, Holders.HasBit, Holders.StandsAgainst, Holders.holder_of, Noted.KeysWithRoom, Noted.held_count, Noted.noted_of, Places.places_of, Places.reserved_places}
 
 -- the list at a key, with no element where there is none
 abbrev pub list_at : {X S : Type 0} → IndexMap ℕ (List X) S → ℕ → List X

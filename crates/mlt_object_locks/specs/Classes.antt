@@ -1,17 +1,9 @@
 -- Classes of operations of all kinds, and sets of them as the bits of a number.
 use Rattle.std.specs.Prelude.{ℕ, ◌≡◌, ◌⊎◌, Bool, true, false, Option, None, Some, option_map}
 use Rattle.std.specs.Int.{bit_at}
-use Rattle.mlt_object_kinds.specs.declared.operation.ObjOp.{ObjOp}
-use Rattle.mlt_object_kinds.specs.declared.operation.ObjReply.{ObjReply}
-use Rattle.mlt_object_conflicts.specs.declared.accounts.AccountClass.{AccountClass}
-use Rattle.mlt_object_conflicts.specs.declared.elements.ElementClass.{ElementClass}
-use Rattle.mlt_object_conflicts.specs.declared.counters.CounterClass.{CounterClass}
-use Rattle.mlt_object_conflicts.specs.AccountTable.{account_class, account_marks}
-use Rattle.mlt_object_conflicts.specs.CounterTable.{counter_class, counter_marks}
-use Rattle.mlt_object_conflicts.specs.ElementTable.{element_class, element_marks}
-use Rattle.mlt_object_conflicts.specs.Sizes.{counts}
-use Rattle.mlt_object_locks.specs.declared.classes.Class.{Class}
-use Rattle.mlt_object_locks.specs.declared.classes.Class.TheVariants.{Account, Element, Counter, Size}
+use Rattle.mlt_object_kinds.specs.declared.operation.{ObjOp.ObjOp, ObjReply.ObjReply}
+use Rattle.mlt_object_conflicts.specs.{declared.accounts.AccountClass.AccountClass, declared.elements.ElementClass.ElementClass, declared.counters.CounterClass.CounterClass, AccountTable.account_class, AccountTable.account_marks, CounterTable.counter_class, CounterTable.counter_marks, ElementTable.element_class, ElementTable.element_marks, Sizes.counts}
+use Rattle.mlt_object_locks.specs.declared.classes.Class.{Class, TheVariants.Account, TheVariants.Element, TheVariants.Counter, TheVariants.Size}
 
 -- the class of one that asks for the size of a set
 abbrev pub size_class : ObjReply → Option Class

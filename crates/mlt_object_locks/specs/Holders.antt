@@ -1,10 +1,7 @@
 -- Those who hold something at one place, or have reserved a cell of it.
 use Rattle.std.specs.Prelude.{ℕ, ◌≡◌, ◌≢◌, ◌⊎◌, ◌&&◌, Bool, not, nat_eq, List, Option, Some, AllPairs, Contains}
-use Rattle.mlt_object_locks.specs.declared.holders.Holder.{Holder}
-use Rattle.mlt_object_kinds.specs.declared.operation.ObjOp.{ObjOp}
-use Rattle.mlt_object_kinds.specs.declared.operation.ObjReply.{ObjReply}
-use Rattle.mlt_object_locks.specs.Locks.{IsLowestOf}
-use Rattle.mlt_object_locks.specs.Classes.{Hinders, InSet, Meets}
+use Rattle.mlt_object_locks.specs.{declared.holders.Holder.Holder, Locks.IsLowestOf, Classes.Hinders, Classes.InSet, Classes.Meets}
+use Rattle.mlt_object_kinds.specs.declared.operation.{ObjOp.ObjOp, ObjReply.ObjReply}
 
 -- a transaction, with the set of the classes that it holds
 abbrev pub holder_of : ℕ → ℕ → Holder

@@ -1,8 +1,7 @@
 -- What is held and reserved, and who stands in the way of whom.
 use Rattle.std.specs.Prelude.{Bool, not, nat_eq, nat_lt, ◌≡◌, ◌≢◌, ℕ, ◌≤◌, List, [], ◌∷◌, ◌++◌, Option, None, Some, Result, OnOk, OnErr, IfErr, IsTrue, Contains, if◌then◌else◌, ◌==◌}
 use Rattle.mlt_types.specs.declared.cell.Cell.{Cell}
-use Rattle.mlt_object_kinds.specs.declared.operation.ObjOp.{ObjOp}
-use Rattle.mlt_object_kinds.specs.declared.operation.ObjReply.{ObjReply}
+use Rattle.mlt_object_kinds.specs.declared.operation.{ObjOp.ObjOp, ObjReply.ObjReply}
 use Rattle.mlt_object_conflicts.specs.Clashes.{clashes}
 
 -- an operation with its reply, and the number of the transaction that holds it

@@ -1,7 +1,6 @@
 -- The places at which transactions hold something, and the room to note more.
 use Rattle.std.specs.Prelude.{ℕ, ◌≡◌, ◌≢◌, ◌+◌, ◌≤◌, nat_eq, Bool, List, [], length, unwrap_or, Contains, filter}
-use Rattle.mlt_object_locks.specs.Locks.{Held}
-use Rattle.mlt_object_locks.specs.Entries.{value_of}
+use Rattle.mlt_object_locks.specs.{Locks.Held, Entries.value_of}
 
 -- the numbers of places, and for how many more there is room
 pub record KeysWithRoom : Type 0 where

@@ -1,12 +1,8 @@
 -- What the orders of an example are.
 use Rattle.std.specs.Prelude.{◌≡◌, Option}
-use Rattle.mlt_object_kinds.specs.declared.operation.ObjOp.{ObjOp}
-use Rattle.mlt_object_kinds.specs.declared.operation.ObjReply.{ObjReply}
-use Rattle.mlt_object_conflicts.specs.declared.example.Example.{Example}
-use Rattle.mlt_object_conflicts.specs.Tables.{IsExample}
-use Rattle.mlt_object_tables.specs.declared.cell_value.CellValue.{CellValue}
-use Rattle.mlt_object_tables.specs.declared.orders.OpOrder.{OpOrder}
-use Rattle.mlt_object_tables.specs.declared.orders.Orders.{Orders}
+use Rattle.mlt_object_kinds.specs.declared.operation.{ObjOp.ObjOp, ObjReply.ObjReply}
+use Rattle.mlt_object_conflicts.specs.{declared.example.Example.Example, Tables.IsExample}
+use Rattle.mlt_object_tables.specs.declared.{cell_value.CellValue.CellValue, orders.OpOrder.OpOrder, orders.Orders.Orders}
 
 -- from the state the first operation is done and then the second, each with the reply that it is told, and the cell holds
 -- then what they leave

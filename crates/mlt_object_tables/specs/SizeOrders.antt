@@ -1,14 +1,8 @@
 -- What the orders of an example with a size are.
 use Rattle.std.specs.Prelude.{◌≡◌, Bool}
-use Rattle.mlt_object_kinds.specs.Elements.{ElementStep}
-use Rattle.mlt_object_kinds.specs.declared.operation.ObjOp.{ObjOp}
-use Rattle.mlt_object_kinds.specs.declared.operation.ObjReply.{ObjReply}
-use Rattle.mlt_object_conflicts.specs.declared.elements.ElementClass.{ElementClass}
-use Rattle.mlt_object_conflicts.specs.declared.sizes.SizeExample.{SizeExample}
-use Rattle.mlt_object_conflicts.specs.Sizes.{IsSizeExample, told_size}
-use Rattle.mlt_object_tables.specs.declared.orders.OpOrder.{OpOrder}
-use Rattle.mlt_object_tables.specs.declared.orders.Orders.{Orders}
-use Rattle.mlt_object_tables.specs.Words.{element_value, on_element}
+use Rattle.mlt_object_kinds.specs.{Elements.ElementStep, declared.operation.ObjOp.ObjOp, declared.operation.ObjReply.ObjReply}
+use Rattle.mlt_object_conflicts.specs.{declared.elements.ElementClass.ElementClass, declared.sizes.SizeExample.SizeExample, Sizes.IsSizeExample, Sizes.told_size}
+use Rattle.mlt_object_tables.specs.{declared.orders.OpOrder.OpOrder, declared.orders.Orders.Orders, Words.element_value, Words.on_element}
 
 -- The one is held and the other one asked for: in the held one's order, and in the other. Both leave the element as it
 -- is said.

@@ -1,14 +1,8 @@
 -- What stands below a mark of a conflict table.
 use Rattle.std.specs.Prelude.{Option, MatchOption}
-use Rattle.mlt_object_kinds.specs.declared.operation.ObjOp.{ObjOp}
-use Rattle.mlt_object_kinds.specs.declared.operation.ObjReply.{ObjReply}
-use Rattle.mlt_object_conflicts.specs.declared.elements.ElementClass.{ElementClass}
-use Rattle.mlt_object_conflicts.specs.Sizes.{CommutesWithSizes}
-use Rattle.mlt_object_conflicts.specs.Tables.{ClassesCommute}
-use Rattle.mlt_object_tables.specs.declared.cell_value.CellValue.{CellValue}
-use Rattle.mlt_object_tables.specs.declared.orders.Orders.{Orders}
-use Rattle.mlt_object_tables.specs.Examples.{IsExampleInOrders}
-use Rattle.mlt_object_tables.specs.SizeOrders.{IsSizeInOrders}
+use Rattle.mlt_object_kinds.specs.declared.operation.{ObjOp.ObjOp, ObjReply.ObjReply}
+use Rattle.mlt_object_conflicts.specs.{declared.elements.ElementClass.ElementClass, Sizes.CommutesWithSizes, Tables.ClassesCommute}
+use Rattle.mlt_object_tables.specs.{declared.cell_value.CellValue.CellValue, declared.orders.Orders.Orders, Examples.IsExampleInOrders, SizeOrders.IsSizeInOrders}
 
 -- an example of the conflict of the classes, in both orders; none where they never conflict
 abbrev pub AreOrdersOf : {S O R C : Type 0} → (S → O → R → S → Type 0) → (O → R → Option C)

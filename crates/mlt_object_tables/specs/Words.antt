@@ -1,17 +1,10 @@
 -- The words of classes, and the objects on which operations are shown.
 use Rattle.std.specs.Prelude.{ℕ, Bool, List, [], ◌∷◌, Contains, Option, codes, refl}
 use Rattle.std.proofs.Common.{arith}
-use Rattle.mlt_object_kinds.specs.declared.account.AccountOp.{AccountOp}
-use Rattle.mlt_object_kinds.specs.declared.element.ElementOp.{ElementOp}
-use Rattle.mlt_object_kinds.specs.declared.counter.CounterOp.{CounterOp}
-use Rattle.mlt_object_kinds.specs.declared.operation.ObjOp.{ObjOp}
-use Rattle.mlt_object_kinds.specs.declared.operation.ObjReply.{ObjReply}
-use Rattle.mlt_object_conflicts.specs.declared.accounts.AccountClass.{AccountClass}
+use Rattle.mlt_object_kinds.specs.declared.{account.AccountOp.AccountOp, element.ElementOp.ElementOp, counter.CounterOp.CounterOp, operation.ObjOp.ObjOp, operation.ObjReply.ObjReply}
+use Rattle.mlt_object_conflicts.specs.declared.{accounts.AccountClass.AccountClass, elements.ElementClass.ElementClass, counters.CounterClass.CounterClass, counters.CounterClass.TheVariants.Counted, counters.CounterClass.TheVariants.Read}
 use Rattle.mlt_object_conflicts.specs.declared.accounts.AccountClass.TheVariants.{Opened, Exists, Closed, NotEmpty, Deposited, Over, Withdrawn, Short, Balance, Missing}
-use Rattle.mlt_object_conflicts.specs.declared.elements.ElementClass.{ElementClass}
 use Rattle.mlt_object_conflicts.specs.declared.elements.ElementClass.TheVariants.{Added, Present, Removed, Absent, Yes, No}
-use Rattle.mlt_object_conflicts.specs.declared.counters.CounterClass.{CounterClass}
-use Rattle.mlt_object_conflicts.specs.declared.counters.CounterClass.TheVariants.{Counted, Read}
 use Rattle.mlt_object_tables.specs.declared.cell_value.CellValue.{CellValue}
 
 -- the classes of accounts, in the order of the table

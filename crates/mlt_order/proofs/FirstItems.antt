@@ -1,9 +1,6 @@
 -- An interleaving is what one gets by taking, again and again, the first item that is left of some list.
 use Rattle.std.proofs.Common.{◌≡◌, ◌↔◌, ℕ, List, [], ◌∷◌, refl, sym, ap, ◌∙◌}
-use Rattle.mlt_order.specs.Interleavings.{items_of, IsInterleaving, TakesFirstItems}
-use Rattle.mlt_order.specs.Tables.{table_with}
-use Rattle.mlt_order.proofs.Tables.{at_each, changed}
-use Rattle.mlt_order.proofs.Parts.{items_of-same, items_of-other}
+use Rattle.mlt_order.{specs.Interleavings.items_of, specs.Interleavings.IsInterleaving, specs.Interleavings.TakesFirstItems, specs.Tables.table_with, proofs.Tables.at_each, proofs.Tables.changed, proofs.Parts.items_of-same, proofs.Parts.items_of-other}
 
 module _ {P : Type 0} where
   taken : (m : List (ℕ × P)) (f : ℕ → List P) → IsInterleaving f m → TakesFirstItems f m

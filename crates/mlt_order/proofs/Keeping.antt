@@ -1,18 +1,10 @@
 -- Each entry that may come keeps the state commit-order serializable, and so does each history.
 use Rattle.std.proofs.Common.{◌≡◌, ◌≢◌, ℕ, List, [], ◌∷◌, ◌++◌, refl, sym, subst, ap, ◌∙◌, inl, inr, Contains}
 use Rattle.std.proofs.lemmas.List.Elements.{Contains-append_left, Contains-append_right, Contains-append_cases}
-use Rattle.mlt_order.specs.Runs.{Runs, IsFunctional, IsInjective}
-use Rattle.mlt_order.specs.Interleavings.{all_items, IsInterleaving}
-use Rattle.mlt_order.specs.Tables.{table_with, Gains, IsEmptied}
+use Rattle.mlt_order.{specs.Runs.Runs, specs.Runs.IsFunctional, specs.Runs.IsInjective, specs.Interleavings.all_items, specs.Interleavings.IsInterleaving, specs.Tables.table_with, specs.Tables.Gains, specs.Tables.IsEmptied, specs.Histories.Stage.Running, specs.Histories.Stage.Ended, proofs.RunLemmas.serial_push, proofs.RunLemmas.contains-nothing, proofs.Tables.at_each, proofs.Tables.changed, proofs.Parts.without, proofs.Mixing.interleaving_push, proofs.Mixing.interleaving_pop, proofs.Mixing.interleaving_without, proofs.Mixing.interleaving_of_nothing, proofs.Growing.but_last-push}
 use Rattle.mlt_order.specs.Histories.{Entry, Lists, no_lists, but_last, ended, after_entry, after_entries, MayCome, MayFollow, IsCommitOrderSerializable}
 use Rattle.mlt_order.specs.Histories.Entry.{Begun, Did, TookBack, Committed, Closed}
-use Rattle.mlt_order.specs.Histories.Stage.{Running, Ended}
-use Rattle.mlt_order.proofs.RunLemmas.{serial_push, contains-nothing}
-use Rattle.mlt_order.proofs.Tables.{at_each, changed}
-use Rattle.mlt_order.proofs.Parts.{without}
-use Rattle.mlt_order.proofs.Mixing.{interleaving_push, interleaving_pop, interleaving_without, interleaving_of_nothing}
 use Rattle.mlt_order.proofs.UndoLaws.{begin, done, undo, undo_goes, commit}
-use Rattle.mlt_order.proofs.Growing.{but_last-push}
 
 module _ {P : Type 0} where
   -- what is open is held

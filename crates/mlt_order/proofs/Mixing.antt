@@ -1,8 +1,6 @@
 -- Interleavings made from others, and of finitely many lists.
 use Rattle.std.proofs.Common.{◌≡◌, ◌≢◌, ◌↔◌, ℕ, zero, suc, ◌+◌, ◌≤◌, List, [], ◌∷◌, ◌++◌, refl, sym, ap, ◌∙◌, arith, append-nil}
-use Rattle.mlt_order.specs.Interleavings.{items_of, IsInterleaving}
-use Rattle.mlt_order.specs.Tables.{Gains, IsEmptied, AreFinitelyMany, table_with}
-use Rattle.mlt_order.proofs.Tables.{at_each, changed}
+use Rattle.mlt_order.{specs.Interleavings.items_of, specs.Interleavings.IsInterleaving, specs.Tables.Gains, specs.Tables.IsEmptied, specs.Tables.AreFinitelyMany, specs.Tables.table_with, proofs.Tables.at_each, proofs.Tables.changed}
 use Rattle.mlt_order.proofs.Parts.{numbered, without, Last, last_of, items_of-same, items_of-other, items_of-append, items_of-numbered_same, items_of-numbered_other, items_of-without_same, items_of-without_other}
 
 above : (bound j : ℕ) → j ≢ bound → bound ≤ j → suc bound ≤ j

@@ -1,9 +1,7 @@
 -- The items of one number in a list whose items bear numbers.
 use Rattle.std.proofs.Common.{◌≡◌, ◌≢◌, ℕ, List, [], ◌∷◌, ◌++◌, refl, sym, subst, ap, ◌∙◌, inl, inr, cond, true, false, nat_eq, Contains, eq-eqb, ne_eqb}
-use Rattle.std.proofs.lemmas.Bool.{cases_eq}
-use Rattle.std.proofs.lemmas.List.Elements.{Contains-append_cases, Contains-append_left}
-use Rattle.mlt_order.specs.Interleavings.{items_of, all_items}
-use Rattle.mlt_order.proofs.RunLemmas.{contains-later, contains-nothing}
+use Rattle.std.proofs.lemmas.{Bool.cases_eq, List.Elements.Contains-append_cases, List.Elements.Contains-append_left}
+use Rattle.mlt_order.{specs.Interleavings.items_of, specs.Interleavings.all_items, proofs.RunLemmas.contains-later, proofs.RunLemmas.contains-nothing}
 
 -- each item under one number
 abbrev pub numbered : {P : Type 0} → ℕ → List P → List (ℕ × P)

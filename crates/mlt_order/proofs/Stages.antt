@@ -1,15 +1,9 @@
 -- How far each number has come along a history, and what it holds.
 use Rattle.std.proofs.Common.{◌≡◌, ◌≢◌, ◌↔◌, ℕ, List, [], ◌∷◌, ◌++◌, refl, sym, subst, ap, ◌∙◌, inl, inr, Contains, append_assoc, arith, slice_index_or, append-nil}
-use Rattle.std.proofs.lemmas.Bool.{cases_eq}
-use Rattle.std.proofs.lemmas.List.Elements.{Contains-append_cases}
-use Rattle.mlt_order.specs.Interleavings.{items_of}
-use Rattle.mlt_order.specs.Tables.{table_with}
+use Rattle.std.proofs.lemmas.{Bool.cases_eq, List.Elements.Contains-append_cases}
+use Rattle.mlt_order.{specs.Interleavings.items_of, specs.Tables.table_with, specs.Histories.Stage.Fresh, specs.Histories.Stage.Running, specs.Histories.Stage.Ended, proofs.RunLemmas.contains-first, proofs.RunLemmas.contains-later, proofs.RunLemmas.contains-nothing, proofs.Parts.items_of-same, proofs.Parts.items_of-other, proofs.Tables.changed}
 use Rattle.mlt_order.specs.Histories.{Entry, Stage, Lists, no_lists, after_entry, after_entries, MayCome, MayFollow, items_done}
 use Rattle.mlt_order.specs.Histories.Entry.{Begun, Did, TookBack, Committed, Closed}
-use Rattle.mlt_order.specs.Histories.Stage.{Fresh, Running, Ended}
-use Rattle.mlt_order.proofs.RunLemmas.{contains-first, contains-later, contains-nothing}
-use Rattle.mlt_order.proofs.Parts.{items_of-same, items_of-other}
-use Rattle.mlt_order.proofs.Tables.{changed}
 
 pub contains-one : {X : Type 0} (x y : X) → Contains (x ∷ []) y → x ≡ y
 contains-one x y h =

@@ -1,15 +1,10 @@
 -- What begin, done, undo and commit do to the base that is left when open transcripts are undone.
 -- f and g give the open transcripts before and after; i is the transaction that acts.
 use Rattle.std.proofs.Common.{◌≡◌, ◌≢◌, ℕ, List, [], ◌∷◌, ◌++◌, sym, subst, ap, ◌∙◌, inl, inr, Contains}
-use Rattle.std.proofs.lemmas.Bool.{cases_eq}
-use Rattle.std.proofs.lemmas.List.Elements.{Contains-append_right}
-use Rattle.mlt_order.specs.Runs.{Runs, IsFunctional, IsInjective, RightCommutesBackward}
-use Rattle.mlt_order.specs.Interleavings.{items_of, all_items, IsInterleaving, UndoneTo}
-use Rattle.mlt_order.specs.Tables.{Gains, IsEmptied}
+use Rattle.std.proofs.lemmas.{Bool.cases_eq, List.Elements.Contains-append_right}
+use Rattle.mlt_order.{specs.Runs.Runs, specs.Runs.IsFunctional, specs.Runs.IsInjective, specs.Runs.RightCommutesBackward, specs.Interleavings.items_of, specs.Interleavings.all_items, specs.Interleavings.IsInterleaving, specs.Interleavings.UndoneTo, specs.Tables.Gains, specs.Tables.IsEmptied, proofs.Tables.at_each, proofs.Mixing.interleaving_push, proofs.Mixing.interleaving_pop, proofs.Mixing.interleaving_before}
 use Rattle.mlt_order.proofs.RunLemmas.{runs_append, runs_split, runs_to_one, runs_from_one, to_front, contains-nothing}
-use Rattle.mlt_order.proofs.Tables.{at_each}
 use Rattle.mlt_order.proofs.Parts.{numbered, Last, in_all_items, items_of-append, items_of-other, all_items-append, all_items-numbered}
-use Rattle.mlt_order.proofs.Mixing.{interleaving_push, interleaving_pop, interleaving_before}
 
 module _ {S P : Type 0} (step : S → P → S → Type 0) where
   -- only what stands under each number counts

@@ -1,8 +1,6 @@
 -- Histories of transactions: the lists that a history tells of, and which entry may come next.
 use Rattle.std.specs.Prelude.{◌≡◌, ◌≢◌, ℕ, List, [], ◌∷◌, ◌++◌, Contains}
-use Rattle.mlt_order.specs.Interleavings.{UndoneTo}
-use Rattle.mlt_order.specs.Runs.{IsSerialBase, RightCommutesBackward}
-use Rattle.mlt_order.specs.Tables.{table_with}
+use Rattle.mlt_order.specs.{Interleavings.UndoneTo, Runs.IsSerialBase, Runs.RightCommutesBackward, Tables.table_with}
 
 -- What happened to the transaction of a number.
 pub data Entry (P : Type 0) : Type 0 where

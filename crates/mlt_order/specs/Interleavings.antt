@@ -1,7 +1,6 @@
 -- Interleavings of the lists that stand under numbers, and what is left when all of the lists are undone.
 use Rattle.std.specs.Prelude.{◌≡◌, ℕ, List, [], ◌∷◌, if◌then◌else◌, ◌==◌}
-use Rattle.mlt_order.specs.Runs.{Runs}
-use Rattle.mlt_order.specs.Tables.{table_with}
+use Rattle.mlt_order.specs.{Runs.Runs, Tables.table_with}
 
 -- the items of one number, in order
 abbrev pub items_of : {P : Type 0} → ℕ → List (ℕ × P) → List P

@@ -1,10 +1,7 @@
 -- A half of a split, slot by slot.
 use Rattle.std.proofs.Common.{◌≡◌, ℕ, ◌<◌, ◌+◌, List, length, map, set, get_or, sym, ap, ◌∙◌, arith, ext_get_or, get_or-set_same, get_or-set_other}
-use Rattle.std.proofs.lemmas.Bool.{cases_eq}
-use Rattle.std.proofs.lemmas.List.{get_or-map, get_or_default, length-map}
-use Rattle.mlt_page.specs.declared.slot.Slot.{Slot}
-use Rattle.mlt_page.specs.declared.slot.Slot.TheVariants.{Free}
-use Rattle.mlt_page.specs.Values.{BucketFields}
+use Rattle.std.proofs.lemmas.{Bool.cases_eq, List.get_or-map, List.get_or_default, List.length-map}
+use Rattle.mlt_page.specs.{declared.slot.Slot.Slot, declared.slot.Slot.TheVariants.Free, Values.BucketFields}
 
 -- the first n slots of a half
 abbrev pub AreHalves : (Slot → Slot) → List Slot → List Slot → ℕ → Type 0

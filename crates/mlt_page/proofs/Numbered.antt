@@ -2,18 +2,10 @@
 -- changes them.
 use Prim.Native.Nat.{zero}
 use Rattle.std.proofs.Common.{◌≡◌, ℕ, suc, ◌<◌, ◌+◌, cond, List, [], ◌∷◌, Some, None, Option, get_or, length, is_some, refl, sym, ap, subst, ◌∙◌, arith, get_or-set_same, get_or-set_other, count_by, nat_cmp}
-use Rattle.std.proofs.lemmas.Bool.{cases_eq}
-use Rattle.std.proofs.lemmas.List.Sums.{sum_by_from}
-use Rattle.std.specs.Cmp.{nat_cmp_total, unsigned_tied}
+use Rattle.std.{proofs.lemmas.Bool.cases_eq, proofs.lemmas.List.Sums.sum_by_from, specs.Cmp.nat_cmp_total, specs.Cmp.unsigned_tied, specs.FinMap.find}
 use Rattle.std.specs.FinMap as map
-use Rattle.std.specs.FinMap.{find}
 use Rattle.slab.specs.Slab.{Slab, Updates, entries_from, get, slab_len, with_value}
-use Rattle.mlt_page.specs.declared.page.Page.{Page}
-use Rattle.mlt_page.specs.declared.slot.Slot.{Slot}
-use Rattle.mlt_page.specs.Values.{BucketFields}
-use Rattle.mlt_page.specs.Pages.{page_with_slot}
-use Rattle.mlt_page.specs.Numbered.{pages_of}
-use Rattle.mlt_page.specs.Stores.{PageStore, Pages, SetsSlot, page_at}
+use Rattle.mlt_page.specs.{declared.page.Page.Page, declared.slot.Slot.Slot, Values.BucketFields, Pages.page_with_slot, Numbered.pages_of, Stores.PageStore, Stores.Pages, Stores.SetsSlot, Stores.page_at}
 
 below : (slots : List (Option Page)) (k q : ℕ) → q < k → find nat_cmp q (entries_from k slots) ≡ None
 below [] k q lt = refl

@@ -1,8 +1,6 @@
 -- A bucket as a page.
 use Rattle.std.specs.Prelude.{ℕ, ◌≡◌}
-use Rattle.mlt_page.specs.declared.slot.Slot.{Slot}
-use Rattle.mlt_page.specs.declared.page.Page.{Page}
-use Rattle.mlt_page.specs.Values.{BucketFields, with_slot}
+use Rattle.mlt_page.specs.{declared.slot.Slot.Slot, declared.page.Page.Page, Values.BucketFields, Values.with_slot}
 
 -- the page is a bucket
 abbrev pub IsBucket : Page → Type 0

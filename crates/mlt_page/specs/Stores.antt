@@ -1,13 +1,8 @@
 -- What a contract sees of a store: its pages, by their numbers, and how many there may be.
 use Rattle.std.specs.Prelude.{ℕ, ◌≡◌, Option, Some, refl}
-use Rattle.std.specs.Ordering.{nat_cmp}
-use Rattle.std.specs.Coded.{Coded, code_by, coded×, coded_ℕ}
+use Rattle.std.specs.{Ordering.nat_cmp, Coded.Coded, Coded.code_by, Coded.coded×, Coded.coded_ℕ}
 use Rattle.std.specs.FinMap as map
-use Rattle.mlt_page.specs.declared.page.Page.{Page}
-use Rattle.mlt_page.specs.declared.slot.Slot.{Slot}
-use Rattle.mlt_page.specs.contracts.page.Page.{the_row}
-use Rattle.mlt_page.specs.Values.{BucketFields}
-use Rattle.mlt_page.specs.Pages.{page_with_slot}
+use Rattle.mlt_page.specs.{declared.page.Page.Page, declared.slot.Slot.Slot, contracts.page.Page.the_row, Values.BucketFields, Pages.page_with_slot}
 
 -- a finite map from page numbers to pages
 abbrev pub Pages : Type 0

@@ -1,9 +1,7 @@
 -- Bits of masks: marks that are set and taken away.
 use Rattle.std.proofs.Common.{◌≡◌, ◌⊎◌, ℕ, ◌+◌, ◌-◌, ◌/◌, ◌%◌, ◌^◌, ◌<◌, ◌≤◌, List, length, get_or, set, length-set, bit_and, bit_or, w64, div-le_self, sym, ap, ◌∙◌, inl, inr, arith, get_or-set_same, get_or-set_other, shr-shr}
 use Rattle.mlt_page_locks.proofs.Names.{bit_at, bit_at-zero, cases_eq, mask_of, row_of, IsMarked, IsUnmarked}
-use Rattle.std.specs.Int.{trailing_zeros}
-use Rattle.std.specs.Int.Count.{trailing_of_zero}
-use Rattle.std.proofs.lemmas.Nat.Bits.{bit_at-lt, bit_at-trailing_zeros, bit_at_and, bit_at_or}
+use Rattle.std.{specs.Int.trailing_zeros, specs.Int.Count.trailing_of_zero, proofs.lemmas.Nat.Bits.bit_at-lt, proofs.lemmas.Nat.Bits.bit_at-trailing_zeros, proofs.lemmas.Nat.Bits.bit_at_and, proofs.lemmas.Nat.Bits.bit_at_or}
 use Rattle.mlt_page_locks.specs.Marks.{IsNextPlace}
 
 module _ (masks : List ℕ) (at v : ℕ) (inside : at < length masks) where

@@ -2,8 +2,7 @@
 use Rattle.std.proofs.Common.{◌≡◌, ℕ, eqb, min, Bool, true, false, not, cond, ◌&&◌, ◌||◌, Option, Some, None, is_some, unwrap_or, List, [], ◌∷◌, ◌++◌, refl, sym, ◌∙◌, arith, MatchOption, nat_cmp}
 use Rattle.std.specs.FinMap as map
 use Rattle.mlt_page_locks.proofs.Names.{nat_tests, Mode, Modes, conflicts, is_against, IsNobody, HeldPages, is_free, table_of, lists_in_use, lock_table}
-use Rattle.mlt_page_locks.specs.Requests.{IsLowest}
-use Rattle.mlt_page_locks.proofs.Tables.{OneEach, get-table_of, later, no_second}
+use Rattle.mlt_page_locks.{specs.Requests.IsLowest, proofs.Tables.OneEach, proofs.Tables.get-table_of, proofs.Tables.later, proofs.Tables.no_second}
 
 -- whether a list has a lock that does not go with one of tx
 abbrev pub in_way : ℕ → ℕ → Mode → HeldPages → Bool

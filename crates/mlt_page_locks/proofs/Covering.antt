@@ -3,9 +3,7 @@ use Rattle.mlt_page_locks.proofs.Names.{zero, bit_at, bit_at-zero, cases_eq, cas
 use Rattle.std.proofs.Common.{suc, ◌+◌, ◌≡◌, ◌≢◌, ◌⊎◌, ℕ, ◌<◌, ◌≤◌, List, [], ◌∷◌, Bool, true, false, Option, Some, None, is_some, length, get_or, set, length-set, replicate, take, take_all, sym, ap, subst, ◌∙◌, refl, true≢false, inl, inr, arith, position, nat_cmp, get_or-set_same, get_or-set_other}
 use Rattle.std.specs.List.{position_or_len}
 use Rattle.std.specs.FinMap as map
-use Rattle.mlt_page_locks.specs.Marks.{InMask, IsMaskOf, Covers, has_page}
-use Rattle.mlt_page_locks.proofs.Maps.{get_inserted}
-use Rattle.mlt_page_locks.proofs.Conflicts.{in_way, in_way_of, in_way-conflicts, nothing_more}
+use Rattle.mlt_page_locks.{specs.Marks.InMask, specs.Marks.IsMaskOf, specs.Marks.Covers, specs.Marks.has_page, proofs.Maps.get_inserted, proofs.Conflicts.in_way, proofs.Conflicts.in_way_of, proofs.Conflicts.in_way-conflicts, proofs.Conflicts.nothing_more}
 
 module _ {X : Type 0} (p : X → Bool) where
   first_is : (xs : List X) (i : ℕ) (d : X) → i < length xs → p (get_or xs i d) ≡ true → ((k : ℕ) → k < i → p (get_or xs k d) ≡ false) → position_or_len p xs ≡ i

@@ -1,15 +1,10 @@
 -- The pages of a list of locks, by rising numbers.
 use Rattle.mlt_page_locks.proofs.Names.{zero, IsBinarySearchResult, nat_cmp_total, nat_tests, cases_eq, cases_lt, cases_Bool, get_or_default, with_items, Mode, PageLock, Modes, stronger, with_page, IsAt, IsBetween}
 use Rattle.std.proofs.Common.{◌≡◌, ◌⊎◌, ℕ, suc, ◌≤◌, ◌<◌, ◌+◌, ◌-◌, eqb, Bool, true, false, cond, Some, None, is_some, true≢false, Result, Ok, Err, List, [], ◌∷◌, ◌++◌, length, get_or, set, refl, sym, ap, subst, inl, inr, ◌∙◌, length-set, arith, MatchResult, insert, nat_cmp, get_or-set_same, get_or-set_other}
-use Rattle.std.specs.List.Sorted.{IsSearchInRange}
-use Rattle.std.specs.Ordering.{MatchOrdering, ordering_index}
-use Rattle.std.specs.Cmp.{ranks}
+use Rattle.std.{specs.List.Sorted.IsSearchInRange, specs.Ordering.MatchOrdering, specs.Ordering.ordering_index, specs.Cmp.ranks, proofs.lemmas.List.Edits.get_or-insert_at, proofs.lemmas.List.Edits.get_or-insert_below, proofs.lemmas.List.Edits.get_or-insert_above, proofs.lemmas.List.Edits.insert_end}
 use Rattle.std.specs.FinMap as map
-use Rattle.std.proofs.lemmas.List.Edits.{get_or-insert_at, get_or-insert_below, get_or-insert_above, insert_end}
-use Rattle.arrayvec.specs.ArrayVec.{ArrayVec}
-use Rattle.arrayvec.proofs.ArrayVecLemmas.{items-with_items}
-use Rattle.mlt_page_locks.proofs.Maps.{get_inserted, same_entries}
-use Rattle.mlt_page_locks.specs.LockLists.{modes_of, IsRising, IsInOrder}
+use Rattle.arrayvec.{specs.ArrayVec.ArrayVec, proofs.ArrayVecLemmas.items-with_items}
+use Rattle.mlt_page_locks.{proofs.Maps.get_inserted, proofs.Maps.same_entries, specs.LockLists.modes_of, specs.LockLists.IsRising, specs.LockLists.IsInOrder}
 
 -- whether a lock is on page q
 abbrev pub is_on : ℕ → PageLock → Bool

@@ -2,11 +2,8 @@
 use Rattle.mlt_page_locks.proofs.Names.{zero, false≢true, position-Some, Mode, pages_of, AreCompatible, HasRoom, granted, with_page, HeldPages, is_free, is_list_of, with_lock, lock_table, IsSound}
 use Rattle.std.proofs.Common.{◌≡◌, ℕ, suc, Option, Some, None, List, [], ◌∷◌, get_or, set, refl, sym, ap, subst, inl, inr, ◌∙◌, position, IsSome, get_or-set_same}
 use Rattle.std.specs.FinMap as map
-use Rattle.mlt_page_locks.specs.LockLists.{HasRoomFor}
-use Rattle.mlt_page_locks.specs.Marks.{HasPlaceFor, IsPlaceFor, TakesFree}
-use Rattle.mlt_page_locks.proofs.Tables.{get-table_of_none}
+use Rattle.mlt_page_locks.{specs.LockLists.HasRoomFor, specs.Marks.HasPlaceFor, specs.Marks.IsPlaceFor, specs.Marks.TakesFree, proofs.Tables.get-table_of_none, proofs.Covering.AddsAt, proofs.Covering.owner_of}
 use Rattle.mlt_page_locks.proofs.Grants.{Makes, blank, none_held, grown, started, theirs, room_in_list, list_left}
-use Rattle.mlt_page_locks.proofs.Covering.{AddsAt, owner_of}
 
 set_twice : (lists : List HeldPages) (i : ℕ) (a b : HeldPages) → set (set lists i a) i b ≡ set lists i b
 set_twice [] i a b = refl

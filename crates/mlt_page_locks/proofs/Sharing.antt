@@ -2,8 +2,7 @@
 use Rattle.mlt_page_locks.proofs.Names.{zero, option_map_or, cases_Bool, nat_tests, Mode, Shared, Exclusive, allows_write, can_write, goes_with, mode_held, HeldPages, IsSound, is_free, is_list_of, lock_table, table_of, IsNobody, conflicts}
 use Rattle.std.proofs.Common.{◌≡◌, ℕ, suc, ◌<◌, true, false, ◌⊎◌, Option, Some, None, is_some, List, [], ◌∷◌, length, get_or, refl, sym, ap, ◌∙◌, subst, inl, inr, true≢false, arith, nat_cmp}
 use Rattle.std.specs.FinMap as map
-use Rattle.mlt_page_locks.proofs.LockLaws.{conflicts-shared}
-use Rattle.mlt_page_locks.proofs.Tables.{OneEach, get-table_of, later, no_second}
+use Rattle.mlt_page_locks.proofs.{LockLaws.conflicts-shared, Tables.OneEach, Tables.get-table_of, Tables.later, Tables.no_second}
 
 -- a list that has a page is somebody's
 used_with_page : (q : ℕ) (pages : HeldPages) (mode : Mode) → map.get pages.modes q ≡ Some mode → is_free pages ≡ false

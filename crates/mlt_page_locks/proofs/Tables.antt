@@ -1,9 +1,8 @@
 -- The table of lists: the first list of a transaction counts.
 use Rattle.mlt_page_locks.proofs.Names.{zero, nat_cmp_total, nat_tests, length-replicate, position-Some, Mode, Modes, LockTable, mode_held, no_locks, AreCompatible, released, HeldPages, is_free, is_list_of, table_of, lists_in_use, lock_table, IsSound}
 use Rattle.std.proofs.Common.{◌≡◌, ℕ, suc, ◌≤◌, ◌<◌, ◌+◌, eqb, true, false, not, cond, ◌&&◌, Some, None, is_some, unwrap_or, List, [], ◌∷◌, length, get_or, set, length-set, replicate, refl, sym, ap, subst, ◌∙◌, arith, position, nat_cmp}
-use Rattle.std.specs.List.{position_from}
+use Rattle.std.{specs.List.position_from, proofs.lemmas.Iterator.Adapters.position_from-zero}
 use Rattle.std.specs.FinMap as map
-use Rattle.std.proofs.lemmas.Iterator.Adapters.{position_from-zero}
 use Rattle.mlt_page_locks.proofs.Maps.{get_inserted, get_removed, same_entries}
 
 -- what is seen of tx is what its first list has

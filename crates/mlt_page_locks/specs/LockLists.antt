@@ -1,12 +1,9 @@
 -- The table that lists of locks make.
 use Rattle.std.specs.Prelude.{◌≡◌, ℕ, ◌==◌, ◌<◌, ◌≤◌, Bool, not, ◌&&◌, cond, List, [], ◌∷◌, ◌+◌, length, slice_index_or, refl}
-use Rattle.std.specs.Ordering.{nat_cmp}
-use Rattle.std.specs.Coded.{Coded, code_by, coded×, coded_ℕ}
+use Rattle.std.specs.{Ordering.nat_cmp, Coded.Coded, Coded.code_by, Coded.coded×, Coded.coded_ℕ}
 use Rattle.std.specs.FinMap as map
-use Rattle.mlt_page_locks.specs.declared.lock_list.PageLock.{PageLock}
+use Rattle.mlt_page_locks.specs.{declared.lock_list.PageLock.PageLock, LockTables.Modes, LockTables.LockTable, LockTables.AreCompatible, LockTables.coded_modes, Requests.with_page}
 use Rattle.mlt_types.specs.declared.mode.Mode.{Mode}
-use Rattle.mlt_page_locks.specs.LockTables.{Modes, LockTable, AreCompatible, coded_modes}
-use Rattle.mlt_page_locks.specs.Requests.{with_page}
 
 -- the pages of a list of locks, each with the mode of its first lock
 abbrev pub modes_of : List PageLock → Modes

@@ -1,12 +1,9 @@
 -- Places that are marked by numbers, and what the marks cover.
 use Rattle.std.specs.Prelude.{◌≡◌, ◌≢◌, ℕ, ◌<◌, ◌≤◌, ◌-◌, ◌⊎◌, Bool, true, false, Option, Some, None, IsSome, MatchOption, is_some, position, List, length, slice_index, slice_index_or, slice_set}
-use Rattle.std.specs.Int.{bit_at}
-use Rattle.std.specs.Int.Bits.{bit_and}
+use Rattle.std.specs.Int.{bit_at, Bits.bit_and}
 use Rattle.std.specs.FinMap as map
 use Rattle.mlt_types.specs.declared.mode.Mode.{Mode}
-use Rattle.mlt_page_locks.specs.LockTables.{LockTable}
-use Rattle.mlt_page_locks.specs.Requests.{conflicts, IsLowest, IsNobody}
-use Rattle.mlt_page_locks.specs.LockLists.{HeldPages, is_free, is_list_of, IsSound}
+use Rattle.mlt_page_locks.specs.{LockTables.LockTable, Requests.conflicts, Requests.IsLowest, Requests.IsNobody, LockLists.HeldPages, LockLists.is_free, LockLists.is_list_of, LockLists.IsSound}
 
 -- The row of a number, where there are so many: its lowest bits, where their number is a power of two. Else some rows
 -- are nobody's.

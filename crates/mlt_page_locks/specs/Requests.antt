@@ -2,11 +2,8 @@
 use Rattle.std.specs.Prelude.{◌≡◌, ℕ, ◌≤◌, ◌==◌, Bool, true, false, not, ◌&&◌, Option, None, Some}
 use Rattle.std.specs.Ordering.{nat_cmp}
 use Rattle.std.specs.FinMap as map
-use Rattle.mlt_types.specs.declared.mode.Mode.{Mode}
-use Rattle.mlt_types.specs.declared.mode.Mode.TheVariants.{Shared, Exclusive}
-use Rattle.mlt_page_locks.specs.declared.page_locks.Grant.{Grant}
-use Rattle.mlt_page_locks.specs.declared.page_locks.Grant.TheVariants.{Held, Waiting}
-use Rattle.mlt_page_locks.specs.LockTables.{LockTable, pages_of, mode_held, goes_with}
+use Rattle.mlt_types.specs.declared.mode.Mode.{Mode, TheVariants.Shared, TheVariants.Exclusive}
+use Rattle.mlt_page_locks.specs.{declared.page_locks.Grant.Grant, declared.page_locks.Grant.TheVariants.Held, declared.page_locks.Grant.TheVariants.Waiting, LockTables.LockTable, LockTables.pages_of, LockTables.mode_held, LockTables.goes_with}
 
 -- whether a lock that is held in this mode, if one is, does not go with one that is asked for
 abbrev pub is_against : Option Mode → Mode → Bool

@@ -1,8 +1,7 @@
 -- Laws of first images: what the pages have once they are put back. Other crates cite them.
 use Rattle.std.proofs.Common.{◌≡◌, ℕ, eqb, Bool, true, false, cond, Option, None, Some, is_some, List, [], ◌∷◌, refl, sym, ap, subst, ◌∙◌, arith, nat_cmp, eqb-true}
-use Rattle.std.specs.Cmp.{unsigned_tied}
+use Rattle.std.specs.{Cmp.unsigned_tied, FinMap.Entries.find}
 use Rattle.std.specs.FinMap as map
-use Rattle.std.specs.FinMap.Entries.{find}
 use Rattle.mlt_page_subtx.proofs.Names.{false≢true, nat_tests, Page, Pages, page_at, same_pages, get_inserted, Images, image_of, with_first, put_back, AreThere}
 use Rattle.mlt_page_locks.proofs.Maps.{get_removed}
 use Rattle.mlt_page_subtx.specs.Images.{or_image, with_firsts, with_new, with_image}

@@ -1,14 +1,11 @@
 -- Images in a list: each page has one, and the last is put back first.
 use Prim.Native.Nat.{zero}
 use Rattle.std.proofs.Common.{◌≡◌, ℕ, suc, ◌+◌, ◌<◌, ◌≤◌, eqb, nat_eq, Bool, true, false, cond, Option, None, Some, is_some, option_map, List, [], ◌∷◌, ◌++◌, length, refl, sym, ap, subst, ◌∙◌, append_assoc, length-append, arith, find, nat_cmp}
-use Rattle.std.specs.Map.{lookup}
-use Rattle.std.specs.Option.{option_or}
-use Rattle.std.specs.Cmp.{nat_cmp_total}
+use Rattle.std.specs.{Map.lookup, Option.option_or, Cmp.nat_cmp_total}
 use Rattle.std.specs.FinMap as map
 use Rattle.mlt_page_subtx.proofs.Names.{false≢true, nat_tests, Page, PageStore, Pages, page_at, same_pages, get_inserted, Image, image_of, with_first, put_back, AreThere, images_in, images_of}
 use Rattle.mlt_page_locks.proofs.Maps.{same_entries}
-use Rattle.mlt_page_subtx.proofs.ImageLaws.{not_there, page_at-put_back, page_at-with_first, put_back-none}
-use Rattle.mlt_page_subtx.specs.ImageLists.{IsKept}
+use Rattle.mlt_page_subtx.{proofs.ImageLaws.not_there, proofs.ImageLaws.page_at-put_back, proofs.ImageLaws.page_at-with_first, proofs.ImageLaws.put_back-none, specs.ImageLists.IsKept}
 
 -- whether an image is of page q
 abbrev pub is_of : ℕ → Image → Bool

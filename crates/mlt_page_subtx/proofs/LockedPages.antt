@@ -4,9 +4,7 @@ use Rattle.std.specs.FinMap as map
 use Rattle.mlt_page_subtx.proofs.Names.{false≢true, nat_tests, Page, Pages, page_at, get_inserted}
 use Rattle.std.proofs.lemmas.Bool.{cases_eq}
 use Rattle.mlt_types.specs.declared.mode.Mode.{Mode}
-use Rattle.mlt_page_locks.specs.LockTables.{LockTable, Modes, no_locks}
-use Rattle.mlt_page_locks.specs.Requests.{granted}
-use Rattle.mlt_page_locks.proofs.LockLaws.{can_read-granted}
+use Rattle.mlt_page_locks.{specs.LockTables.LockTable, specs.LockTables.Modes, specs.LockTables.no_locks, specs.Requests.granted, proofs.LockLaws.can_read-granted}
 use Rattle.mlt_page_subtx.specs.Locking.{LocksPagesThere}
 
 -- locked pages are there: none is locked at first,

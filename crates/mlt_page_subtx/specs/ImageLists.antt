@@ -2,8 +2,7 @@
 use Rattle.std.specs.Prelude.{◌≡◌, ◌+◌, ◌<◌, ℕ, Option, List, [], ◌∷◌, ◌++◌, length}
 use Rattle.std.specs.FinMap as map
 use Rattle.mlt_page.specs.declared.page.Page.{Page}
-use Rattle.mlt_page_subtx.specs.declared.image.Image.{Image}
-use Rattle.mlt_page_subtx.specs.Images.{Images}
+use Rattle.mlt_page_subtx.specs.{declared.image.Image.Image, Images.Images}
 
 -- each image under its page
 abbrev pub images_of : List Image → Images

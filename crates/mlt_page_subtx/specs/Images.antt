@@ -3,9 +3,7 @@ use Rattle.std.specs.Prelude.{◌≡◌, ℕ, true, Option, None, Some, List, []
 use Rattle.std.specs.Ordering.{nat_cmp}
 use Rattle.std.specs.Coded.{Coded, code_by, coded×, coded_ℕ, coded_option}
 use Rattle.std.specs.FinMap as map
-use Rattle.mlt_page.specs.declared.page.Page.{Page}
-use Rattle.mlt_page.specs.contracts.page.Page.{the_row}
-use Rattle.mlt_page.specs.Stores.{Pages, page_at}
+use Rattle.mlt_page.specs.{declared.page.Page.Page, contracts.page.Page.the_row, Stores.Pages, Stores.page_at}
 
 -- what each page that was written or made had at first; a page that was made had nothing
 abbrev pub Images : Type 0

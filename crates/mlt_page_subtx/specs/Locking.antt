@@ -1,7 +1,6 @@
 -- What a subtransaction that makes pages can know of the locks.
 use Rattle.std.specs.Prelude.{◌≡◌, ℕ, true, false, is_some}
-use Rattle.mlt_page_locks.specs.LockTables.{LockTable, can_read, HasRoom}
-use Rattle.mlt_page_locks.specs.Requests.{granted}
+use Rattle.mlt_page_locks.specs.{LockTables.LockTable, LockTables.can_read, LockTables.HasRoom, Requests.granted}
 use Rattle.mlt_types.specs.declared.mode.Mode.TheVariants.{Exclusive}
 use Rattle.mlt_page.specs.Stores.{Pages, page_at}
 

@@ -1,11 +1,7 @@
 -- A scan finds the scripts of a text, and its first fault.
 use Rattle.std.proofs.Common.{◌≡◌, ℕ, ◌+◌, ◌<◌, ◌≤◌, List, [], ◌∷◌, ◌++◌, length, map, inl, inr, None, Result, Ok, Err, refl, sym, ap, ◌∙◌, append_assoc, length-append, arith, append-nil, lt-ltb, le-ltb}
 use Rattle.mlt_script.proofs.Names.{map-append, ScriptCause, LineForm, Begins, Says, Closes, ScriptReading, Bad, Skip, Form, Asking, Wanted, Statement, Line, Block, Open, join, grow, longest, nesting, path, depth, widest, deepest, Nothing, Then, If, Top, InFirst, InSecond, Raw, ScriptForm, IsScript, one_more, AreScripts, IsSpelled, IsSpelledOpen, IsSpelledScript, AreSpelled, IsLawful, AreLawful, form_in, forms_of, AreWhole, AreOpen, IsSound, IsFault, IsFirstFaultOf, ScanState, advance, said, after, line_fault, Outside, Inside, step}
-use Rattle.mlt_script.specs.Readings.{reading}
-use Rattle.mlt_script.specs.TreeLaws.{grow_nothing, grow_twice}
-use Rattle.mlt_script.specs.Grammar.{IsNoBegin, HasNoPlace, IsAskingHere}
-use Rattle.mlt_script.specs.Scan.{scan}
-use Rattle.mlt_script.proofs.Placing.{path_grow, depth_grow}
+use Rattle.mlt_script.{specs.Readings.reading, specs.TreeLaws.grow_nothing, specs.TreeLaws.grow_twice, specs.Grammar.IsNoBegin, specs.Grammar.HasNoPlace, specs.Grammar.IsAskingHere, specs.Scan.scan, proofs.Placing.path_grow, proofs.Placing.depth_grow}
 
 abbrev and_then : Result ScanState ScriptCause → (ScanState → Result ScanState ScriptCause) → Result ScanState ScriptCause
 and_then (Ok s) next = next s

@@ -1,11 +1,8 @@
 -- What a scan's exactness says of an answer that agrees with it.
 use Rattle.std.proofs.Common.{◌≡◌, ℕ, List, [], ◌⊎◌, inl, inr, Result, Ok, Err, refl, sym, ap, subst, ◌∙◌, IfOk, IfErr, IsErrAnd, MatchResult}
 use Rattle.mlt_script.proofs.Names.{Refusal, OutOfMemory, ScriptFault, ScriptCause, Gives, Refuses, Outside, ScriptForm}
-use Rattle.mlt_script.specs.Grammar.{Spells, IsFirstFault, IsDecided}
+use Rattle.mlt_script.{specs.Grammar.Spells, specs.Grammar.IsFirstFault, specs.Grammar.IsDecided, specs.Scan.scan, proofs.Soundness.Answers, proofs.Soundness.answers, proofs.Completeness.finds_scripts, proofs.Completeness.finds_fault}
 use Rattle.mlt_text_words.specs.Lines.{lines}
-use Rattle.mlt_script.specs.Scan.{scan}
-use Rattle.mlt_script.proofs.Soundness.{Answers, answers}
-use Rattle.mlt_script.proofs.Completeness.{finds_scripts, finds_fault}
 
 abbrev pub Wanted : Type 0
 Wanted = Result (List ScriptForm) (ℕ × ScriptCause)

@@ -1,13 +1,9 @@
 -- What a line can be by itself: its faults are Line and Words, and a client is below 1000.
 use Rattle.std.proofs.Common.{◌≡◌, ℕ, ◌<◌, List, [], ◌∷◌, length, inl, inr, Bool, true, false, cond, ltb, Option, Some, None, refl, arith, option_and_then, nat_lt, ltb-true}
 use Rattle.mlt_script.proofs.Names.{list_all, ScriptCause, LineForm, Begins, Says, Closes, Keyword, Word, Key, Variable, Number, Other, Bad, Skip, Commit, Ask, Plain, Else, End, Raw, is_comment, is_allowed, said_by, IsReading, words_of}
-use Rattle.mlt_text_words.specs.declared.letter.Letter.{Letter}
-use Rattle.mlt_script.specs.declared.statement.Ending.TheVariants.{Abort}
-use Rattle.mlt_script.specs.declared.statement.Statement.TheVariants.{Need, Let}
-use Rattle.mlt_script.specs.declared.statement.Line.TheVariants.{If}
+use Rattle.mlt_text_words.specs.{declared.letter.Letter.Letter, Lines.content}
+use Rattle.mlt_script.specs.{declared.statement.Ending.TheVariants.Abort, declared.statement.Statement.TheVariants.Need, declared.statement.Statement.TheVariants.Let, declared.statement.Line.TheVariants.If, Readings.reading, Readings.form_or_fault, Readings.outside_comment}
 use Rattle.mlt_script.specs.Forms.{form_of, key_form, begin_form, ask_form, need_form, if_form, let_form, equals_source, number_below, letter_at, key_at, source_at, asking_at, asking_is_at, finish}
-use Rattle.mlt_text_words.specs.Lines.{content}
-use Rattle.mlt_script.specs.Readings.{reading, form_or_fault, outside_comment}
 
 abbrev IsForm : LineForm → Type 0
 IsForm (Begins client) = client < 1000

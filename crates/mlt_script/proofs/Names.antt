@@ -1,33 +1,5 @@
 -- Names of other crates, of std and of specs/ that two files of these proofs or more import. Declares nothing.
-pub use Rattle.mlt_script.specs.Grammar.{AreLawful, AreOpen, AreScripts, AreSpelled, AreWhole, IsFault, IsFirstFaultOf, IsLawful, IsSound, IsSpelled, IsSpelledOpen, IsSpelledScript, form_in, forms_of}
-pub use Rattle.mlt_script.specs.Parsers.{state_of}
-pub use Rattle.mlt_script.specs.Readings.{IsReading, said_by}
-pub use Rattle.mlt_script.specs.Scan.{Advances, Gives, Refuses, ScanState, advance, after, at_end, ended, line_fault, said, step}
-pub use Rattle.mlt_script.specs.Scan.ScanState.{Inside, Outside}
-pub use Rattle.mlt_script.specs.declared.forms.LineForm.{LineForm}
-pub use Rattle.mlt_script.specs.declared.forms.LineForm.TheVariants.{Begins, Closes, Says}
-pub use Rattle.mlt_script.specs.declared.frame.Frame.{Frame}
-pub use Rattle.mlt_script.specs.declared.line.ScriptReading.{ScriptReading}
-pub use Rattle.mlt_script.specs.declared.line.ScriptReading.TheVariants.{Bad, Form, Skip}
-pub use Rattle.mlt_script.specs.Blocks.{Block, Open, deepest, depth, grow, join, longest, nesting, path, widest}
-pub use Rattle.mlt_script.specs.Blocks.Block.{If, Nothing, Then}
-pub use Rattle.mlt_script.specs.Blocks.Open.{InFirst, InSecond, Top}
-pub use Rattle.mlt_script.specs.Scripts.{IsScript, ScriptForm, one_more, open_of, whole}
-pub use Rattle.mlt_script.specs.declared.statement.Asking.{Asking}
-pub use Rattle.mlt_script.specs.declared.statement.Ending.TheVariants.{Commit}
-pub use Rattle.mlt_script.specs.declared.statement.Line.{Line}
-pub use Rattle.mlt_script.specs.declared.statement.Line.TheVariants.{Else, End, Plain}
-pub use Rattle.mlt_script.specs.declared.statement.Statement.{Statement}
-pub use Rattle.mlt_script.specs.declared.statement.Statement.TheVariants.{Ask}
-pub use Rattle.mlt_script.specs.declared.statement.Wanted.{Wanted}
-pub use Rattle.mlt_text_words.specs.Fronts.{TextIs}
-pub use Rattle.mlt_text_words.specs.Lines.{Raw, is_allowed, is_comment}
-pub use Rattle.mlt_text_words.specs.Words.{number_at, word_at, words_of}
-pub use Rattle.mlt_text_words.specs.declared.keyword.Keyword.{Keyword}
-pub use Rattle.mlt_text_words.specs.declared.keyword.Word.{Word}
-pub use Rattle.mlt_text_words.specs.declared.keyword.Word.TheVariants.{Key, Number, Other, Variable}
-pub use Rattle.mlt_types.specs.declared.refusal.Refusal.{Refusal}
-pub use Rattle.mlt_types.specs.declared.refusal.Refusal.TheVariants.{OutOfMemory, ScriptFault}
-pub use Rattle.mlt_types.specs.declared.refusal.ScriptCause.{ScriptCause}
-pub use Rattle.std.proofs.lemmas.List.{map-append, reverse-append}
-pub use Rattle.std.specs.List.{list_all}
+pub use Rattle.mlt_script.specs.{Grammar.AreLawful, Grammar.AreOpen, Grammar.AreScripts, Grammar.AreSpelled, Grammar.AreWhole, Grammar.IsFault, Grammar.IsFirstFaultOf, Grammar.IsLawful, Grammar.IsSound, Grammar.IsSpelled, Grammar.IsSpelledOpen, Grammar.IsSpelledScript, Grammar.form_in, Grammar.forms_of, Parsers.state_of, Readings.IsReading, Readings.said_by, Scan.Advances, Scan.Gives, Scan.Refuses, Scan.ScanState, Scan.advance, Scan.after, Scan.at_end, Scan.ended, Scan.line_fault, Scan.said, Scan.step, Scan.ScanState.Inside, Scan.ScanState.Outside, declared.forms.LineForm.LineForm, declared.forms.LineForm.TheVariants.Begins, declared.forms.LineForm.TheVariants.Closes, declared.forms.LineForm.TheVariants.Says, declared.frame.Frame.Frame, declared.line.ScriptReading.ScriptReading, declared.line.ScriptReading.TheVariants.Bad, declared.line.ScriptReading.TheVariants.Form, declared.line.ScriptReading.TheVariants.Skip, Blocks.Block, Blocks.Open, Blocks.deepest, Blocks.depth, Blocks.grow, Blocks.join, Blocks.longest, Blocks.nesting, Blocks.path, Blocks.widest, Blocks.Block.If, Blocks.Block.Nothing, Blocks.Block.Then, Blocks.Open.InFirst, Blocks.Open.InSecond, Blocks.Open.Top, Scripts.IsScript, Scripts.ScriptForm, Scripts.one_more, Scripts.open_of, Scripts.whole, declared.statement.Asking.Asking, declared.statement.Ending.TheVariants.Commit, declared.statement.Line.Line, declared.statement.Line.TheVariants.Else, declared.statement.Line.TheVariants.End, declared.statement.Line.TheVariants.Plain, declared.statement.Statement.Statement, declared.statement.Statement.TheVariants.Ask, declared.statement.Wanted.Wanted}
+pub use Rattle.mlt_text_words.specs.{Fronts.TextIs, Lines.Raw, Lines.is_allowed, Lines.is_comment, Words.number_at, Words.word_at, Words.words_of, declared.keyword.Keyword.Keyword, declared.keyword.Word.Word, declared.keyword.Word.TheVariants.Key, declared.keyword.Word.TheVariants.Number, declared.keyword.Word.TheVariants.Other, declared.keyword.Word.TheVariants.Variable}
+pub use Rattle.mlt_types.specs.declared.refusal.{Refusal.Refusal, Refusal.TheVariants.OutOfMemory, Refusal.TheVariants.ScriptFault, ScriptCause.ScriptCause}
+pub use Rattle.std.{proofs.lemmas.List.map-append, proofs.lemmas.List.reverse-append, specs.List.list_all}

@@ -1,9 +1,8 @@
 -- Scripts that are parted by their clients.
 use Rattle.std.proofs.Common.{Vec, Global, ◌≡◌, ℕ, zero, suc, ◌+◌, ◌<◌, List, [], ◌∷◌, ◌++◌, length, reverse, replicate, get_or, set, map, ◌==◌, Bool, true, false, cond, refl, sym, ap, subst, ◌∙◌, append_assoc, length-append, arith, append-nil, length-set}
 use Rattle.std.proofs.lemmas.List.{reverse-append, reverse-reverse, map-append, get_or-replicate, length-replicate, length-map, map-set, get_or-map, replicate-append-replicate}
-use Rattle.mlt_script.specs.declared.script.Script.{Script}
+use Rattle.mlt_script.specs.{declared.script.Script.Script, Scripts.ScriptForm}
 use Rattle.mlt_script.specs.Clients.{scripts_of, if_any, parts_below, parts_of, AreFilled}
-use Rattle.mlt_script.specs.Scripts.{ScriptForm}
 
 pub filled_none : (lists : List (List ScriptForm)) → lists ≡ replicate 1000 [] → AreFilled [] lists
 filled_none lists e =

@@ -2,10 +2,7 @@
 use Rattle.std.proofs.Common.{◌≡◌, ℕ, ◌+◌, ◌≤◌, ◌<◌, max, List, [], ◌∷◌, ◌++◌, length, reverse, ltb, Bool, true, false, cond, Option, Some, None, refl, sym, ap, subst, ◌∙◌, append_assoc, arith, lt-ltb, le-ltb, ltb-true}
 use Rattle.mlt_script.proofs.Names.{reverse-append, ScriptCause, Frame, Asking, Wanted, Statement, Line, Block, Open, join, grow, longest, nesting, path, depth, widest, deepest, Nothing, Then, If, Top, InFirst, InSecond, line_fault, open_of, one_more, whole}
 use Rattle.mlt_types.specs.declared.refusal.ScriptCause.TheVariants.{Place, Deep, Long}
-use Rattle.mlt_script.specs.Blocks.{lines_of, lines_open}
-use Rattle.mlt_script.specs.Frames.{frames_of}
-use Rattle.mlt_script.specs.Scan.{long_fault, else_fault, end_fault}
-use Rattle.mlt_script.specs.Scripts.{read_on, turned, closed}
+use Rattle.mlt_script.specs.{Blocks.lines_of, Blocks.lines_open, Frames.frames_of, Scan.long_fault, Scan.else_fault, Scan.end_fault, Scripts.read_on, Scripts.turned, Scripts.closed}
 
 lines_join : (b c : Block) → lines_of (join b c) ≡ lines_of b ++ lines_of c
 lines_join Nothing c = refl

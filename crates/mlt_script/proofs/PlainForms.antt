@@ -1,21 +1,11 @@
 -- Operations and lines of a plain form, as they are read in the general way.
 use Rattle.std.proofs.Common.{◌≡◌, ℕ, ◌^◌, ◌<◌, List, [], ◌∷◌, ◌++◌, length, true, false, Option, Some, None, IfSome, option_and_then, refl, sym, ap, ◌∙◌, append_assoc, length-append, arith, lt-ltb, append-nil}
 use denote.Ref.{Bor}
-use Rattle.mlt_object_kinds.specs.declared.operation.ObjOp.{ObjOp}
-use Rattle.mlt_object_kinds.specs.declared.operation.ObjReply.{ObjReply}
+use Rattle.mlt_object_kinds.specs.declared.operation.{ObjOp.ObjOp, ObjReply.ObjReply}
 use Rattle.mlt_script.proofs.Names.{LineForm, Begins, Says, Closes, Asking, Commit, Ask, Line, Keyword, Word, Key, Number, TextIs, is_comment, number_at}
-use Rattle.mlt_script.specs.Amounts.{with_amount}
-use Rattle.mlt_script.specs.declared.statement.AmountOp.{AmountOp}
-use Rattle.mlt_script.specs.declared.statement.Asking.TheVariants.{Fixed, By}
-use Rattle.mlt_text_words.specs.Fronts.{BeginsWithWords}
-use Rattle.mlt_text_words.specs.Lines.{lines}
-use Rattle.mlt_text_words.specs.Words.{spelling}
-use Rattle.mlt_text_words.proofs.Cutting.{line_cut}
-use Rattle.mlt_text_words.proofs.Fronts.{no_comment, words_then}
-use Rattle.mlt_text_words.proofs.Pieces.{at_most, beside, key_text}
+use Rattle.mlt_script.{specs.Amounts.with_amount, specs.declared.statement.AmountOp.AmountOp, specs.declared.statement.Asking.TheVariants.Fixed, specs.declared.statement.Asking.TheVariants.By, specs.Plain.BeginsWithForm, specs.Plain.BeginsWithOp, specs.Plain.BeginsWithReply, specs.Plain.GoesOnWithOp, proofs.Saying.says_so}
+use Rattle.mlt_text_words.{specs.Fronts.BeginsWithWords, specs.Lines.lines, specs.Words.spelling, proofs.Cutting.line_cut, proofs.Fronts.no_comment, proofs.Fronts.words_then, proofs.Pieces.at_most, proofs.Pieces.beside, proofs.Pieces.key_text}
 use Rattle.mlt_script.specs.Forms.{asking_at, asking_of, ask_form, element_op, fixed, form_of, key_form, op_at, op_of_amount, op_of_element, op_of_one, key_at, number_below, amount_at, begin_form, reply_at, reply_after, reply_word}
-use Rattle.mlt_script.specs.Plain.{BeginsWithForm, BeginsWithOp, BeginsWithReply, GoesOnWithOp}
-use Rattle.mlt_script.proofs.Saying.{says_so}
 
 -- ---- the words of an operation
 

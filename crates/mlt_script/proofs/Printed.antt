@@ -1,26 +1,11 @@
 -- Printed scripts are read again.
 use Rattle.std.proofs.Common.{◌≡◌, ℕ, List, [], ◌∷◌, ◌++◌, map, inl, inr, true, Result, Ok, Err, OnOk, refl, sym, ap, subst, ◌∙◌, append_assoc, append-nil}
-use Rattle.std.specs.List.{list_all}
-use Rattle.std.proofs.lemmas.List.{map-append}
-use Rattle.mlt_script.specs.declared.forms.LineForm.{LineForm}
-use Rattle.mlt_script.specs.declared.forms.LineForm.TheVariants.{Begins, Says, Closes}
-use Rattle.mlt_script.specs.declared.line.ScriptReading.{ScriptReading}
-use Rattle.mlt_script.specs.declared.line.ScriptReading.TheVariants.{Form}
-use Rattle.mlt_script.specs.declared.statement.Line.{Line}
+use Rattle.std.{specs.List.list_all, proofs.lemmas.List.map-append}
+use Rattle.mlt_script.{specs.declared.forms.LineForm.LineForm, specs.declared.forms.LineForm.TheVariants.Begins, specs.declared.forms.LineForm.TheVariants.Says, specs.declared.forms.LineForm.TheVariants.Closes, specs.declared.line.ScriptReading.ScriptReading, specs.declared.line.ScriptReading.TheVariants.Form, specs.declared.statement.Line.Line, specs.Blocks.Block, specs.Blocks.lines_of, specs.Blocks.Block.Nothing, specs.Blocks.Block.Then, specs.Blocks.Block.If, specs.LineTexts.line_text, specs.LineTexts.ending_text, specs.Ranges.FitsLine, specs.Readings.reading, specs.Scripts.ScriptForm, specs.Scripts.IsScript, specs.TreeLaws.regroup, proofs.Rereading.line_again, proofs.Rereading.line_printable, proofs.Rereading.begin_again, proofs.Rereading.ending_again}
 use Rattle.mlt_script.specs.Again.{IsReadAs, IsReadAgain, AreReadAgain, second_lines, written, forms_of_script, IsScriptAgain, AreScriptsAgain}
-use Rattle.mlt_script.specs.Blocks.{Block, lines_of}
-use Rattle.mlt_script.specs.Blocks.Block.{Nothing, Then, If}
 use Rattle.mlt_script.specs.Grammar.{AreScripts, AreLawful, AreSpelled, IsSpelled, IsLawful, Spells, form_in, forms_of}
-use Rattle.mlt_text_words.specs.Lines.{Raw, lines}
-use Rattle.mlt_script.specs.LineTexts.{line_text, ending_text}
+use Rattle.mlt_text_words.{specs.Lines.Raw, specs.Lines.lines, specs.Fronts.is_printable, proofs.Cutting.line_cut}
 use Rattle.mlt_script.specs.Printing.{as_line, begin_text, second_part, block_text, script_text, scripts_text, shown}
-use Rattle.mlt_script.specs.Ranges.{FitsLine}
-use Rattle.mlt_script.specs.Readings.{reading}
-use Rattle.mlt_script.specs.Scripts.{ScriptForm, IsScript}
-use Rattle.mlt_script.specs.TreeLaws.{regroup}
-use Rattle.mlt_text_words.specs.Fronts.{is_printable}
-use Rattle.mlt_text_words.proofs.Cutting.{line_cut}
-use Rattle.mlt_script.proofs.Rereading.{line_again, line_printable, begin_again, ending_again}
 
 pub reads_line : (t : List ℕ) (form : LineForm) → reading record { bytes = t; ended = true } ≡ Form form → list_all is_printable t ≡ true → IsReadAs (as_line t) (form ∷ [])
 reads_line t form e h = λ rest.

@@ -1,40 +1,13 @@
 -- Printed lines say what they were written for.
 use Rattle.std.proofs.Common.{◌≡◌, ℕ, suc, ◌-◌, ◌^◌, ◌<◌, List, [], ◌∷◌, ◌++◌, length, get_or, zero, nat_lt, ◌==◌, ◌&&◌, Bool, true, false, cond, Some, refl, sym, ap, subst, ◌∙◌, append_assoc, arith, decimal, append-nil, lt-ltb}
 use Rattle.std.specs.List.{list_all}
-use Rattle.mlt_object_kinds.specs.declared.account.AccountOp.{AccountOp}
-use Rattle.mlt_object_kinds.specs.declared.element.ElementOp.{ElementOp}
-use Rattle.mlt_object_kinds.specs.declared.counter.CounterOp.{CounterOp}
-use Rattle.mlt_object_kinds.specs.declared.operation.ObjOp.{ObjOp}
-use Rattle.mlt_object_kinds.specs.declared.operation.ObjOp.TheVariants.{Account, Element, Counter, Size}
-use Rattle.mlt_object_kinds.specs.declared.operation.ObjReply.{ObjReply}
-use Rattle.mlt_object_kinds.specs.Texts.{op_text}
-use Rattle.mlt_script.specs.declared.forms.LineForm.TheVariants.{Begins, Says, Closes}
-use Rattle.mlt_text_words.specs.declared.keyword.Keyword.{Keyword}
-use Rattle.mlt_text_words.specs.declared.keyword.Word.{Word}
-use Rattle.mlt_text_words.specs.declared.keyword.Word.TheVariants.{Key, Variable, Number}
-use Rattle.mlt_script.specs.declared.line.ScriptReading.TheVariants.{Form}
-use Rattle.mlt_text_words.specs.declared.letter.Letter.{Letter}
-use Rattle.mlt_script.specs.declared.statement.AmountOp.{AmountOp}
-use Rattle.mlt_script.specs.declared.statement.Asking.{Asking}
-use Rattle.mlt_script.specs.declared.statement.Asking.TheVariants.{Fixed, By}
-use Rattle.mlt_script.specs.declared.statement.Wanted.{Wanted}
-use Rattle.mlt_script.specs.declared.statement.Source.{Source}
-use Rattle.mlt_script.specs.declared.statement.Statement.TheVariants.{Ask, Need, Let}
-use Rattle.mlt_script.specs.declared.statement.Line.{Line}
-use Rattle.mlt_script.specs.declared.statement.Ending.{Ending}
-use Rattle.mlt_script.specs.declared.statement.Ending.TheVariants.{Commit, Abort}
+use Rattle.mlt_object_kinds.specs.{declared.account.AccountOp.AccountOp, declared.element.ElementOp.ElementOp, declared.counter.CounterOp.CounterOp, declared.operation.ObjOp.ObjOp, declared.operation.ObjOp.TheVariants.Account, declared.operation.ObjOp.TheVariants.Element, declared.operation.ObjOp.TheVariants.Counter, declared.operation.ObjOp.TheVariants.Size, declared.operation.ObjReply.ObjReply, Texts.op_text, Ranges.FitsOp, Ranges.FitsReply}
+use Rattle.mlt_script.{specs.declared.forms.LineForm.TheVariants.Begins, specs.declared.forms.LineForm.TheVariants.Says, specs.declared.forms.LineForm.TheVariants.Closes, specs.declared.line.ScriptReading.TheVariants.Form, specs.declared.statement.AmountOp.AmountOp, specs.declared.statement.Asking.Asking, specs.declared.statement.Asking.TheVariants.Fixed, specs.declared.statement.Asking.TheVariants.By, specs.declared.statement.Wanted.Wanted, specs.declared.statement.Source.Source, specs.declared.statement.Statement.TheVariants.Ask, specs.declared.statement.Statement.TheVariants.Need, specs.declared.statement.Statement.TheVariants.Let, specs.declared.statement.Line.Line, specs.declared.statement.Ending.Ending, specs.declared.statement.Ending.TheVariants.Commit, specs.declared.statement.Ending.TheVariants.Abort, specs.Printing.begin_text, specs.Readings.reading, proofs.Saying.says_so}
+use Rattle.mlt_text_words.specs.{declared.keyword.Keyword.Keyword, declared.keyword.Word.Word, declared.keyword.Word.TheVariants.Key, declared.keyword.Word.TheVariants.Variable, declared.keyword.Word.TheVariants.Number, declared.letter.Letter.Letter, Lines.without_cr, Lines.is_comment, Letters.letter_text, Words.spelling, Fronts.TextIs, Fronts.is_printable}
 use Rattle.mlt_script.specs.Forms.{form_of, key_form, key_at, asking_at, op_of_one, op_of_amount, element_op, op_of_element, number_below, amount_at, op_at, reply_word, wanted_at, asking_is_at, begin_form, let_form, letter_at, source_at, need_form, if_form, ask_form}
-use Rattle.mlt_text_words.specs.Lines.{without_cr, is_comment}
-use Rattle.mlt_text_words.specs.Letters.{letter_text}
 use Rattle.mlt_script.specs.LineTexts.{amount_op_text, asking_text, wanted_text, reply_wanted, source_text, line_text, ending_text}
-use Rattle.mlt_script.specs.Printing.{begin_text}
-use Rattle.mlt_object_kinds.specs.Ranges.{FitsOp, FitsReply}
 use Rattle.mlt_script.specs.Ranges.{FitsAmount, FitsAsking, FitsWanted, FitsSource, FitsLine}
-use Rattle.mlt_script.specs.Readings.{reading}
-use Rattle.mlt_text_words.specs.Words.{spelling}
-use Rattle.mlt_text_words.specs.Fronts.{TextIs, is_printable}
 use Rattle.mlt_text_words.proofs.Pieces.{first_and, beside, at_most, key_text, letter_is, number_is}
-use Rattle.mlt_script.proofs.Saying.{says_so}
 
 -- A printable line without a comment says what its words say.
 

@@ -2,8 +2,7 @@
 use Rattle.std.proofs.Common.{◌≡◌, ℕ, List, [], ◌∷◌, length, is_some, true, false, Some, None, nat_lt, if◌then◌else◌, refl, ◌∙◌, le-ltb}
 use Rattle.mlt_script.proofs.Names.{list_all, ScriptCause, LineForm, Bad, Skip, Form, Word, TextIs, is_allowed, is_comment, word_at, words_of, said_by}
 use Rattle.mlt_text_words.proofs.Allowed.{all_allowed, no_cr}
-use Rattle.mlt_script.specs.Forms.{form_of, key_at}
-use Rattle.mlt_script.specs.Readings.{reading}
+use Rattle.mlt_script.specs.{Forms.form_of, Forms.key_at, Readings.reading}
 
 pub said_form : (words : List Word) (form : LineForm) → form_of words ≡ Some form → said_by words ≡ Form form
 unfolding form_of key_at

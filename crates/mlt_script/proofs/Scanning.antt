@@ -2,8 +2,7 @@
 use Rattle.std.proofs.Common.{◌≡◌, ℕ, ◌+◌, List, [], ◌∷◌, length, Result, Ok, Err, sym, ap, ◌∙◌, arith}
 use Rattle.mlt_script.proofs.Names.{Refusal, OutOfMemory, ScriptFault, ScriptCause, Raw, ScanState, after, advance, at_end, Advances, Refuses, ScriptForm}
 use Rattle.mlt_text_words.specs.Lines.{lines}
-use Rattle.mlt_script.specs.Readings.{reading}
-use Rattle.mlt_script.specs.Scan.{scan}
+use Rattle.mlt_script.specs.{Readings.reading, Scan.scan}
 
 abbrev Answer : Type 0
 Answer = Result (List ScriptForm) (ℕ × ScriptCause)

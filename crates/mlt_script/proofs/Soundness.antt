@@ -1,12 +1,7 @@
 -- What a scan answers is so: its scripts are those of the text, and its fault is the first one.
 use Rattle.std.proofs.Common.{◌≡◌, ℕ, ◌+◌, ◌<◌, List, [], ◌∷◌, ◌++◌, length, map, ◌⊎◌, inl, inr, Bool, true, false, cond, ltb, Option, Some, None, Result, Ok, Err, refl, sym, ap, subst, ◌∙◌, append_assoc, length-append, arith, append-nil, ltb-true, ltb-false}
 use Rattle.mlt_script.proofs.Names.{map-append, ScriptCause, LineForm, Begins, Says, Closes, ScriptReading, Bad, Skip, Form, Asking, Wanted, Statement, Line, Block, Open, join, grow, path, depth, Nothing, Then, If, Top, InFirst, InSecond, Raw, IsReading, ScriptForm, IsScript, one_more, AreScripts, IsSpelled, IsSpelledOpen, IsSpelledScript, AreSpelled, IsLawful, AreLawful, form_in, forms_of, AreWhole, AreOpen, IsSound, IsFault, IsFirstFaultOf, ScanState, advance, after, at_end, said, ended, line_fault, Outside, Inside}
-use Rattle.mlt_script.specs.declared.statement.Ending.{Ending}
-use Rattle.mlt_script.specs.Blocks.{IsWithin}
-use Rattle.mlt_script.specs.Readings.{reading}
-use Rattle.mlt_script.specs.Grammar.{AreSpelledOpen}
-use Rattle.mlt_script.specs.Scan.{scan}
-use Rattle.mlt_script.proofs.Forming.{readings}
+use Rattle.mlt_script.{specs.declared.statement.Ending.Ending, specs.Blocks.IsWithin, specs.Readings.reading, specs.Grammar.AreSpelledOpen, specs.Scan.scan, proofs.Forming.readings}
 use Rattle.mlt_script.proofs.Placing.{widest_grow, deepest_grow, path_widest, depth_deepest, not_long, not_deep}
 
 -- these lines lead to the state

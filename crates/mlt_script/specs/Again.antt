@@ -1,15 +1,7 @@
 -- Texts that are read again as what they were written for.
 use Rattle.std.specs.Prelude.{◌≡◌, ℕ, List, [], ◌∷◌, ◌++◌, map}
-use Rattle.mlt_script.specs.declared.forms.LineForm.{LineForm}
-use Rattle.mlt_script.specs.declared.forms.LineForm.TheVariants.{Begins, Says, Closes}
-use Rattle.mlt_script.specs.declared.statement.Line.{Line}
-use Rattle.mlt_script.specs.Blocks.{Block}
-use Rattle.mlt_script.specs.Blocks.Block.{Nothing, Then, If}
-use Rattle.mlt_script.specs.Grammar.{AreLawful, forms_of}
+use Rattle.mlt_script.specs.{declared.forms.LineForm.LineForm, declared.forms.LineForm.TheVariants.Begins, declared.forms.LineForm.TheVariants.Says, declared.forms.LineForm.TheVariants.Closes, declared.statement.Line.Line, Blocks.Block, Blocks.Block.Nothing, Blocks.Block.Then, Blocks.Block.If, Grammar.AreLawful, Grammar.forms_of, LineTexts.line_text, Printing.as_line, Printing.script_text, Scripts.ScriptForm, Scripts.IsScript}
 use Rattle.mlt_text_words.specs.Lines.{lines}
-use Rattle.mlt_script.specs.LineTexts.{line_text}
-use Rattle.mlt_script.specs.Printing.{as_line, script_text}
-use Rattle.mlt_script.specs.Scripts.{ScriptForm, IsScript}
 
 -- Before any text, this one is lines of these forms.
 abbrev pub IsReadAs : List ℕ → List LineForm → Type 0

@@ -1,9 +1,6 @@
 -- The statements of a script, as a tree; a script that is read up to somewhere; and the lines of both.
 use Rattle.std.specs.Prelude.{ℕ, ◌+◌, ◌≤◌, max, List, [], ◌∷◌, ◌++◌}
-use Rattle.mlt_script.specs.declared.statement.Asking.{Asking}
-use Rattle.mlt_script.specs.declared.statement.Wanted.{Wanted}
-use Rattle.mlt_script.specs.declared.statement.Statement.{Statement}
-use Rattle.mlt_script.specs.declared.statement.Line.{Line}
+use Rattle.mlt_script.specs.declared.statement.{Asking.Asking, Wanted.Wanted, Statement.Statement, Line.Line}
 
 -- Nothing more; or a statement of one line and those after it; or an if with its first part, its second part, which
 -- may be empty, and the statements after it.

@@ -1,28 +1,9 @@
 -- The forms of a line. A function reads from the front of the words, and gives what it read and the words after it.
 use Rattle.std.specs.Prelude.{◌≡◌, ℕ, ◌^◌, List, [], ◌∷◌, Option, Some, None, option_and_then, option_map, nat_lt, if◌then◌else◌}
 use denote.Ref.{Bor}
-use Rattle.mlt_object_kinds.specs.declared.account.AccountOp.{AccountOp}
-use Rattle.mlt_object_kinds.specs.declared.element.ElementOp.{ElementOp}
-use Rattle.mlt_object_kinds.specs.declared.counter.CounterOp.{CounterOp}
-use Rattle.mlt_object_kinds.specs.declared.operation.ObjOp.{ObjOp}
-use Rattle.mlt_object_kinds.specs.declared.operation.ObjOp.TheVariants.{Account, Element, Counter, Size}
-use Rattle.mlt_object_kinds.specs.declared.operation.ObjReply.{ObjReply}
-use Rattle.mlt_script.specs.declared.forms.LineForm.{LineForm}
-use Rattle.mlt_script.specs.declared.forms.LineForm.TheVariants.{Begins, Says, Closes}
-use Rattle.mlt_text_words.specs.declared.keyword.Keyword.{Keyword}
-use Rattle.mlt_text_words.specs.declared.keyword.Word.{Word}
-use Rattle.mlt_text_words.specs.declared.keyword.Word.TheVariants.{Key, Variable, Number, Other}
-use Rattle.mlt_text_words.specs.declared.letter.Letter.{Letter}
-use Rattle.mlt_script.specs.declared.statement.AmountOp.{AmountOp}
-use Rattle.mlt_script.specs.declared.statement.Asking.{Asking}
-use Rattle.mlt_script.specs.declared.statement.Asking.TheVariants.{Fixed, By}
-use Rattle.mlt_script.specs.declared.statement.Wanted.{Wanted}
-use Rattle.mlt_script.specs.declared.statement.Source.{Source}
-use Rattle.mlt_script.specs.declared.statement.Ending.TheVariants.{Commit, Abort}
-use Rattle.mlt_script.specs.declared.statement.Statement.TheVariants.{Ask, Need, Let}
-use Rattle.mlt_script.specs.declared.statement.Line.{Line}
-use Rattle.mlt_script.specs.Amounts.{with_amount}
-use Rattle.mlt_text_words.specs.Words.{number_at, words_of, word_at}
+use Rattle.mlt_object_kinds.specs.declared.{account.AccountOp.AccountOp, element.ElementOp.ElementOp, counter.CounterOp.CounterOp, operation.ObjOp.ObjOp, operation.ObjOp.TheVariants.Account, operation.ObjOp.TheVariants.Element, operation.ObjOp.TheVariants.Counter, operation.ObjOp.TheVariants.Size, operation.ObjReply.ObjReply}
+use Rattle.mlt_script.specs.{declared.forms.LineForm.LineForm, declared.forms.LineForm.TheVariants.Begins, declared.forms.LineForm.TheVariants.Says, declared.forms.LineForm.TheVariants.Closes, declared.statement.AmountOp.AmountOp, declared.statement.Asking.Asking, declared.statement.Asking.TheVariants.Fixed, declared.statement.Asking.TheVariants.By, declared.statement.Wanted.Wanted, declared.statement.Source.Source, declared.statement.Ending.TheVariants.Commit, declared.statement.Ending.TheVariants.Abort, declared.statement.Statement.TheVariants.Ask, declared.statement.Statement.TheVariants.Need, declared.statement.Statement.TheVariants.Let, declared.statement.Line.Line, Amounts.with_amount}
+use Rattle.mlt_text_words.specs.{declared.keyword.Keyword.Keyword, declared.keyword.Word.Word, declared.keyword.Word.TheVariants.Key, declared.keyword.Word.TheVariants.Variable, declared.keyword.Word.TheVariants.Number, declared.keyword.Word.TheVariants.Other, declared.letter.Letter.Letter, Words.number_at, Words.words_of, Words.word_at}
 
 infixl 10 ◌>>=◌
 abbrev pub ◌>>=◌ : {A B : Type 0} → Option A → (A → Option B) → Option B

@@ -1,8 +1,6 @@
 -- The open ifs of a script that is read up to somewhere.
 use Rattle.std.specs.Prelude.{◌+◌, List, [], ◌∷◌, true, false}
-use Rattle.mlt_script.specs.declared.frame.Frame.{Frame}
-use Rattle.mlt_script.specs.Blocks.{Open, path, longest}
-use Rattle.mlt_script.specs.Blocks.Open.{Top, InFirst, InSecond}
+use Rattle.mlt_script.specs.{declared.frame.Frame.Frame, Blocks.Open, Blocks.path, Blocks.longest, Blocks.Open.Top, Blocks.Open.InFirst, Blocks.Open.InSecond}
 
 -- the open ifs, the innermost first
 abbrev pub frames_of : Open → List Frame

@@ -1,19 +1,9 @@
 -- Which scripts a text is, and where its first fault stands.
 use Rattle.std.specs.Prelude.{◌≡◌, ℕ, ◌+◌, ◌<◌, List, [], ◌∷◌, ◌++◌, length, map, Bool, true, false, ◌⊎◌}
 use Rattle.mlt_types.specs.declared.refusal.ScriptCause.{ScriptCause}
-use Rattle.mlt_script.specs.declared.forms.LineForm.{LineForm}
-use Rattle.mlt_script.specs.declared.forms.LineForm.TheVariants.{Begins, Says, Closes}
-use Rattle.mlt_script.specs.declared.line.ScriptReading.{ScriptReading}
-use Rattle.mlt_script.specs.declared.line.ScriptReading.TheVariants.{Bad, Form}
-use Rattle.mlt_script.specs.declared.statement.Asking.{Asking}
-use Rattle.mlt_script.specs.declared.statement.Wanted.{Wanted}
-use Rattle.mlt_script.specs.declared.statement.Line.{Line}
+use Rattle.mlt_script.specs.{declared.forms.LineForm.LineForm, declared.forms.LineForm.TheVariants.Begins, declared.forms.LineForm.TheVariants.Says, declared.forms.LineForm.TheVariants.Closes, declared.line.ScriptReading.ScriptReading, declared.line.ScriptReading.TheVariants.Bad, declared.line.ScriptReading.TheVariants.Form, declared.statement.Asking.Asking, declared.statement.Wanted.Wanted, declared.statement.Line.Line, Blocks.Block.Nothing, Blocks.Block.Then, Blocks.Block.If, Blocks.Open.Top, Blocks.Open.InFirst, Blocks.Open.InSecond, Readings.reading, Scripts.ScriptForm, Scripts.IsScript}
 use Rattle.mlt_script.specs.Blocks.{Block, Open, path, depth, IsWithin}
-use Rattle.mlt_script.specs.Blocks.Block.{Nothing, Then, If}
-use Rattle.mlt_script.specs.Blocks.Open.{Top, InFirst, InSecond}
 use Rattle.mlt_text_words.specs.Lines.{Raw, lines}
-use Rattle.mlt_script.specs.Readings.{reading}
-use Rattle.mlt_script.specs.Scripts.{ScriptForm, IsScript}
 
 abbrev pub AreScripts : List ScriptForm → Type 0
 AreScripts [] = Unit {0}

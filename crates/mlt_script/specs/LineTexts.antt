@@ -1,22 +1,8 @@
 -- The texts of the lines of a script.
 use Rattle.std.specs.Prelude.{ℕ, List, ◌∷◌, ◌++◌, codes, decimal}
-use Rattle.mlt_object_kinds.specs.declared.operation.ObjReply.{ObjReply}
-use Rattle.mlt_object_kinds.specs.declared.operation.ObjReply.TheVariants.{Is}
-use Rattle.mlt_object_kinds.specs.Texts.{with_number, op_text, reply_text}
+use Rattle.mlt_object_kinds.specs.{declared.operation.ObjReply.ObjReply, declared.operation.ObjReply.TheVariants.Is, Texts.with_number, Texts.op_text, Texts.reply_text}
 use Rattle.mlt_text_words.specs.Letters.{letter_text}
-use Rattle.mlt_script.specs.declared.statement.AmountOp.{AmountOp}
-use Rattle.mlt_script.specs.declared.statement.AmountOp.TheVariants.{Deposit, Withdraw, Up, Down}
-use Rattle.mlt_script.specs.declared.statement.Asking.{Asking}
-use Rattle.mlt_script.specs.declared.statement.Asking.TheVariants.{Fixed, By}
-use Rattle.mlt_script.specs.declared.statement.Wanted.{Wanted}
-use Rattle.mlt_script.specs.declared.statement.Wanted.TheVariants.{Reply, ValueOf}
-use Rattle.mlt_script.specs.declared.statement.Source.{Source}
-use Rattle.mlt_script.specs.declared.statement.Source.TheVariants.{Balance, Read, Size}
-use Rattle.mlt_script.specs.declared.statement.Statement.{Statement}
-use Rattle.mlt_script.specs.declared.statement.Statement.TheVariants.{Ask, Need, Let}
-use Rattle.mlt_script.specs.declared.statement.Line.{Line}
-use Rattle.mlt_script.specs.declared.statement.Ending.{Ending}
-use Rattle.mlt_script.specs.declared.statement.Ending.TheVariants.{Commit, Abort}
+use Rattle.mlt_script.specs.declared.statement.{AmountOp.AmountOp, AmountOp.TheVariants.Deposit, AmountOp.TheVariants.Withdraw, AmountOp.TheVariants.Up, AmountOp.TheVariants.Down, Asking.Asking, Asking.TheVariants.Fixed, Asking.TheVariants.By, Wanted.Wanted, Wanted.TheVariants.Reply, Wanted.TheVariants.ValueOf, Source.Source, Source.TheVariants.Balance, Source.TheVariants.Read, Source.TheVariants.Size, Statement.Statement, Statement.TheVariants.Ask, Statement.TheVariants.Need, Statement.TheVariants.Let, Line.Line, Ending.Ending, Ending.TheVariants.Commit, Ending.TheVariants.Abort}
 
 -- words and a word after them, parted by a space
 abbrev pub with_word : List ℕ → List ℕ → List ℕ

@@ -1,10 +1,6 @@
 -- The state that a parser is in.
 use Rattle.std.specs.Prelude.{List, Option, Some, None}
-use Rattle.mlt_script.specs.declared.open_script.OpenScript.{OpenScript}
-use Rattle.mlt_script.specs.declared.parser.Parser.{Parser}
-use Rattle.mlt_script.specs.Scan.{ScanState}
-use Rattle.mlt_script.specs.Scan.ScanState.{Outside, Inside}
-use Rattle.mlt_script.specs.Scripts.{ScriptForm, open_of}
+use Rattle.mlt_script.specs.{declared.open_script.OpenScript.OpenScript, declared.parser.Parser.Parser, Scan.ScanState, Scan.ScanState.Outside, Scan.ScanState.Inside, Scripts.ScriptForm, Scripts.open_of}
 
 abbrev pub state_with : List ScriptForm → Option OpenScript → ScanState
 state_with scripts None = Outside scripts

@@ -1,16 +1,8 @@
 -- Operations, replies and lines of a plain form, which has one space between words and nothing else.
 use Rattle.std.specs.Prelude.{◌≡◌, ◌<◌, ℕ, List, ◌∷◌, ◌++◌, length, Some, false}
-use Rattle.mlt_object_kinds.specs.declared.operation.ObjOp.{ObjOp}
-use Rattle.mlt_object_kinds.specs.declared.operation.ObjReply.{ObjReply}
-use Rattle.mlt_script.specs.declared.forms.LineForm.{LineForm}
-use Rattle.mlt_script.specs.declared.line.ScriptReading.TheVariants.{Form}
-use Rattle.mlt_script.specs.Forms.{asking_at, op_at, reply_at}
-use Rattle.mlt_script.specs.Readings.{reading}
-use Rattle.mlt_script.specs.declared.statement.Asking.TheVariants.{Fixed}
-use Rattle.mlt_text_words.specs.declared.keyword.Keyword.{Keyword}
-use Rattle.mlt_text_words.specs.declared.keyword.Word.{Word}
-use Rattle.mlt_text_words.specs.Fronts.{BeginsWithWords, TextIs}
-use Rattle.mlt_text_words.specs.Lines.{Raw, is_comment, lines}
+use Rattle.mlt_object_kinds.specs.declared.operation.{ObjOp.ObjOp, ObjReply.ObjReply}
+use Rattle.mlt_script.specs.{declared.forms.LineForm.LineForm, declared.line.ScriptReading.TheVariants.Form, Forms.asking_at, Forms.op_at, Forms.reply_at, Readings.reading, declared.statement.Asking.TheVariants.Fixed}
+use Rattle.mlt_text_words.specs.{declared.keyword.Keyword.Keyword, declared.keyword.Word.Word, Fronts.BeginsWithWords, Fronts.TextIs, Lines.Raw, Lines.is_comment, Lines.lines}
 
 -- the text begins with the words that follow the keyword in this operation, and then comes the rest
 abbrev pub GoesOnWithOp : Keyword → List ℕ → ObjOp → List ℕ → Type 0

@@ -1,11 +1,7 @@
 -- The text of scripts.
 use Rattle.std.specs.Prelude.{ℕ, List, [], ◌∷◌, ◌++◌, codes, ◌==◌, Bool, true, false, if◌then◌else◌, flat_map}
 use Rattle.mlt_object_kinds.specs.Texts.{with_number}
-use Rattle.mlt_script.specs.declared.statement.Line.{Line}
-use Rattle.mlt_script.specs.Blocks.{Block}
-use Rattle.mlt_script.specs.Blocks.Block.{Nothing, Then, If}
-use Rattle.mlt_script.specs.LineTexts.{statement_text, line_text, ending_text}
-use Rattle.mlt_script.specs.Scripts.{ScriptForm}
+use Rattle.mlt_script.specs.{declared.statement.Line.Line, Blocks.Block, Blocks.Block.Nothing, Blocks.Block.Then, Blocks.Block.If, LineTexts.statement_text, LineTexts.line_text, LineTexts.ending_text, Scripts.ScriptForm}
 
 -- begin alone for client 0
 abbrev pub begin_text : ℕ → List ℕ

@@ -1,15 +1,7 @@
 -- What numbers the lines of a script can have.
 use Rattle.std.specs.Prelude.{◌<◌, ◌^◌}
 use Rattle.mlt_object_kinds.specs.Ranges.{FitsOp, FitsReply}
-use Rattle.mlt_script.specs.declared.statement.AmountOp.{AmountOp}
-use Rattle.mlt_script.specs.declared.statement.Asking.{Asking}
-use Rattle.mlt_script.specs.declared.statement.Asking.TheVariants.{Fixed, By}
-use Rattle.mlt_script.specs.declared.statement.Wanted.{Wanted}
-use Rattle.mlt_script.specs.declared.statement.Wanted.TheVariants.{Reply, ValueOf}
-use Rattle.mlt_script.specs.declared.statement.Source.{Source}
-use Rattle.mlt_script.specs.declared.statement.Statement.{Statement}
-use Rattle.mlt_script.specs.declared.statement.Statement.TheVariants.{Ask, Need, Let}
-use Rattle.mlt_script.specs.declared.statement.Line.{Line}
+use Rattle.mlt_script.specs.declared.statement.{AmountOp.AmountOp, Asking.Asking, Asking.TheVariants.Fixed, Asking.TheVariants.By, Wanted.Wanted, Wanted.TheVariants.Reply, Wanted.TheVariants.ValueOf, Source.Source, Statement.Statement, Statement.TheVariants.Ask, Statement.TheVariants.Need, Statement.TheVariants.Let, Line.Line}
 
 abbrev pub FitsAmount : AmountOp → Type 0
 FitsAmount (AmountOp.Deposit a) = a < 2 ^ 32

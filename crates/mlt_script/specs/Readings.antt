@@ -2,14 +2,8 @@
 use Rattle.std.specs.Prelude.{◌≡◌, ◌<◌, ◌⊎◌, List, [], ◌∷◌, length, nat_lt, Option, Some, None, if◌then◌else◌}
 use Rattle.std.specs.List.{list_all}
 use Rattle.mlt_types.specs.declared.refusal.ScriptCause.{ScriptCause}
-use Rattle.mlt_script.specs.declared.forms.LineForm.{LineForm}
-use Rattle.mlt_script.specs.declared.forms.LineForm.TheVariants.{Begins}
-use Rattle.mlt_text_words.specs.declared.keyword.Word.{Word}
-use Rattle.mlt_script.specs.declared.line.ScriptReading.{ScriptReading}
-use Rattle.mlt_script.specs.declared.line.ScriptReading.TheVariants.{Bad, Skip, Form}
-use Rattle.mlt_script.specs.Forms.{form_of}
-use Rattle.mlt_text_words.specs.Lines.{Raw, content, is_comment, is_allowed}
-use Rattle.mlt_text_words.specs.Words.{words_of}
+use Rattle.mlt_script.specs.{declared.forms.LineForm.LineForm, declared.forms.LineForm.TheVariants.Begins, declared.line.ScriptReading.ScriptReading, declared.line.ScriptReading.TheVariants.Bad, declared.line.ScriptReading.TheVariants.Skip, declared.line.ScriptReading.TheVariants.Form, Forms.form_of}
+use Rattle.mlt_text_words.specs.{declared.keyword.Word.Word, Lines.Raw, Lines.content, Lines.is_comment, Lines.is_allowed, Words.words_of}
 
 abbrev pub form_or_fault : Option LineForm → ScriptReading
 form_or_fault (Some form) = Form form

@@ -1,21 +1,8 @@
 -- How the parser goes over the lines: one after the other, up to the first fault.
 use Rattle.std.specs.Prelude.{◌≡◌, ℕ, ◌+◌, List, [], ◌∷◌, ◌++◌, nat_lt, Option, Some, None, Result, Ok, Err, if◌then◌else◌}
-use Rattle.mlt_types.specs.declared.refusal.Refusal.{Refusal}
-use Rattle.mlt_types.specs.declared.refusal.Refusal.TheVariants.{OutOfMemory, ScriptFault}
-use Rattle.mlt_types.specs.declared.refusal.ScriptCause.{ScriptCause}
-use Rattle.mlt_types.specs.declared.refusal.ScriptCause.TheVariants.{Place, Deep, Long, Unfinished}
-use Rattle.mlt_script.specs.declared.forms.LineForm.{LineForm}
-use Rattle.mlt_script.specs.declared.forms.LineForm.TheVariants.{Begins, Says, Closes}
-use Rattle.mlt_script.specs.declared.line.ScriptReading.{ScriptReading}
-use Rattle.mlt_script.specs.declared.line.ScriptReading.TheVariants.{Bad, Skip, Form}
-use Rattle.mlt_script.specs.declared.statement.Ending.{Ending}
-use Rattle.mlt_script.specs.declared.statement.Line.{Line}
-use Rattle.mlt_script.specs.Blocks.{Open, path, depth}
-use Rattle.mlt_script.specs.Blocks.Block.{Nothing}
-use Rattle.mlt_script.specs.Blocks.Open.{Top, InFirst}
+use Rattle.mlt_types.specs.declared.refusal.{Refusal.Refusal, Refusal.TheVariants.OutOfMemory, Refusal.TheVariants.ScriptFault, ScriptCause.ScriptCause, ScriptCause.TheVariants.Place, ScriptCause.TheVariants.Deep, ScriptCause.TheVariants.Long, ScriptCause.TheVariants.Unfinished}
+use Rattle.mlt_script.specs.{declared.forms.LineForm.LineForm, declared.forms.LineForm.TheVariants.Begins, declared.forms.LineForm.TheVariants.Says, declared.forms.LineForm.TheVariants.Closes, declared.line.ScriptReading.ScriptReading, declared.line.ScriptReading.TheVariants.Bad, declared.line.ScriptReading.TheVariants.Skip, declared.line.ScriptReading.TheVariants.Form, declared.statement.Ending.Ending, declared.statement.Line.Line, Blocks.Open, Blocks.path, Blocks.depth, Blocks.Block.Nothing, Blocks.Open.Top, Blocks.Open.InFirst, Readings.reading, Scripts.ScriptForm, Scripts.one_more}
 use Rattle.mlt_text_words.specs.Lines.{Raw}
-use Rattle.mlt_script.specs.Readings.{reading}
-use Rattle.mlt_script.specs.Scripts.{ScriptForm, one_more}
 
 -- after these scripts: outside a script, or inside one of this client, up to here
 pub data ScanState : Type 0 where

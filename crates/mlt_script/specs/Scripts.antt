@@ -1,10 +1,7 @@
 -- A script, as contracts see it.
 use Rattle.std.specs.Prelude.{ℕ, ◌<◌, ◌≤◌, List, [], ◌∷◌}
-use Rattle.mlt_script.specs.declared.statement.Line.{Line}
-use Rattle.mlt_script.specs.declared.statement.Ending.{Ending}
+use Rattle.mlt_script.specs.{declared.statement.Line.Line, declared.statement.Ending.Ending, Blocks.Block.Nothing, Blocks.Block.Then, Blocks.Block.If, Blocks.Open.Top, Blocks.Open.InFirst, Blocks.Open.InSecond}
 use Rattle.mlt_script.specs.Blocks.{Block, longest, nesting, Open, grow}
-use Rattle.mlt_script.specs.Blocks.Block.{Nothing, Then, If}
-use Rattle.mlt_script.specs.Blocks.Open.{Top, InFirst, InSecond}
 
 -- a script: the number of its client, its statements, and whether it ends in a commit or an abort
 pub record ScriptForm : Type 0 where

@@ -3,14 +3,10 @@ use Rattle.std.specs.Prelude.{◌≡◌, ℕ, List, [], ◌∷◌, ◌++◌, ref
 use Rattle.std.proofs.Common.{sym, ap, ◌∙◌, append_assoc}
 use Rattle.std.proofs.lemmas.List.{append-nil}
 use Rattle.std.specs.Coded.{Coded, code_by, coded_ℕ, coded_list, coded×}
-use Rattle.mlt_script.specs.declared.statement.Line.{Line}
-use Rattle.mlt_script.specs.declared.statement.Ending.{Ending}
+use Rattle.mlt_script.specs.{declared.statement.Line.Line, declared.statement.Ending.Ending, Blocks.Block.Nothing, Blocks.Block.Then, Blocks.Block.If, Blocks.Open.Top, Blocks.Open.InFirst, Blocks.Open.InSecond, Scripts.ScriptForm, Scripts.read_on, Scripts.whole, Scripts.tree_of}
 use Rattle.mlt_script.specs.contracts.statement.Line as line_row
 use Rattle.mlt_script.specs.contracts.statement.Ending as ending_row
 use Rattle.mlt_script.specs.Blocks.{Block, Open, join, grow, lines_of}
-use Rattle.mlt_script.specs.Blocks.Block.{Nothing, Then, If}
-use Rattle.mlt_script.specs.Blocks.Open.{Top, InFirst, InSecond}
-use Rattle.mlt_script.specs.Scripts.{ScriptForm, read_on, whole, tree_of}
 
 pub join_nothing : (b : Block) → join b Nothing ≡ b
 join_nothing Nothing = refl

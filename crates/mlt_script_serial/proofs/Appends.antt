@@ -1,14 +1,10 @@
 -- Runs of scripts, one more at the end.
 use Rattle.std.proofs.Common.{take, zero, suc, add-zero, ◌<◌, ◌≤◌, ◌≢◌, Bool, true, false, cond, length, get_or, set, arith, inl, inr, ◌≡◌, ℕ, ◌+◌, List, [], ◌∷◌, ◌++◌, Option, Some, None, map, count_by, ◌==◌, refl, sym, ap, ◌∙◌, subst, append_assoc, append-nil, get_or-set_same, get_or-set_other}
-use Rattle.std.proofs.lemmas.List.{take_more, map-append}
-use Rattle.std.proofs.lemmas.List.Sums.{fold-append}
-use Rattle.std.proofs.lemmas.Bool.Decides.{eqb_tells}
+use Rattle.std.proofs.lemmas.{List.take_more, List.map-append, List.Sums.fold-append, Bool.Decides.eqb_tells}
 use Rattle.mlt_types.specs.declared.refusal.Refusal.{Refusal}
 use Rattle.mlt_object_kinds.specs.Bases.{Base}
 use Rattle.mlt_script.specs.Scripts.{ScriptForm}
-use Rattle.mlt_script_serial.specs.declared.outcome.End.{End}
-use Rattle.mlt_script_serial.specs.declared.outcome.End.TheVariants.{Committed, Aborted, Refused}
-use Rattle.mlt_script_serial.specs.declared.outcome.Outcome.{Outcome}
+use Rattle.mlt_script_serial.specs.declared.outcome.{End.End, End.TheVariants.Committed, End.TheVariants.Aborted, End.TheVariants.Refused, Outcome.Outcome}
 use Rattle.mlt_script_serial.specs.Serial.{IsScriptRun, AreRuns, AreNumbered, AreMarksOf, AreWithoutTx, mark_of, mark_of_end, unmarked}
 
 -- one more script runs

@@ -1,9 +1,7 @@
 -- Scripts that are played, as their transcripts grow.
 use Rattle.std.proofs.Common.{ℕ, [], ◌∷◌, ◌++◌, refl, sym, subst}
 use Rattle.mlt_script_serial.proofs.Names.{ObjOp, ObjReply, Transcript, Gives}
-use Rattle.mlt_script_serial.specs.declared.call.DeskAnswer.TheVariants.{Replied}
-use Rattle.mlt_script_serial.specs.declared.call.DeskCall.TheVariants.{Operation}
-use Rattle.mlt_script_serial.specs.Calls.{Moves}
+use Rattle.mlt_script_serial.specs.{declared.call.DeskAnswer.TheVariants.Replied, declared.call.DeskCall.TheVariants.Operation, Calls.Moves}
 
 -- one more reply is given
 pub gives_more : {D : Type 0} (moves : Moves D) (tx : ℕ) (d : D) (t : Transcript) (m e : D) (op : ObjOp) (r : ObjReply)

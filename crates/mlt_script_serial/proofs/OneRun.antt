@@ -1,20 +1,10 @@
 -- The scripts and the marks fix the outcomes and the base.
 use Rattle.std.proofs.Common.{map, ◌≡◌, ℕ, List, [], ◌∷◌, length, refl, sym, ap, ◌∙◌, subst, arith}
-use Rattle.mlt_object_kinds.specs.declared.operation.ObjOp.{ObjOp}
-use Rattle.mlt_object_kinds.specs.declared.operation.ObjReply.{ObjReply}
-use Rattle.mlt_object_kinds.proofs.BaseLaws.{base_one_answer}
-use Rattle.mlt_object_kinds.specs.Bases.{Base, Step, TranscriptLeads, Transcript}
-use Rattle.mlt_script.specs.declared.statement.Ending.{Ending}
-use Rattle.mlt_script.specs.declared.statement.Ending.TheVariants.{Commit, Abort}
-use Rattle.mlt_script.specs.Scripts.{ScriptForm}
-use Rattle.mlt_script_serial.specs.Follows.{Questions, Reaches, Follows, questions_of_script}
+use Rattle.mlt_object_kinds.{specs.declared.operation.ObjOp.ObjOp, specs.declared.operation.ObjReply.ObjReply, proofs.BaseLaws.base_one_answer, specs.Bases.Base, specs.Bases.Step, specs.Bases.TranscriptLeads, specs.Bases.Transcript}
+use Rattle.mlt_script.specs.{declared.statement.Ending.Ending, declared.statement.Ending.TheVariants.Commit, declared.statement.Ending.TheVariants.Abort, Scripts.ScriptForm}
+use Rattle.mlt_script_serial.{specs.Follows.Questions, specs.Follows.Reaches, specs.Follows.Follows, specs.Follows.questions_of_script, specs.declared.outcome.End.End, specs.declared.outcome.End.TheVariants.Committed, specs.declared.outcome.End.TheVariants.Aborted, specs.declared.outcome.End.TheVariants.Refused, specs.declared.outcome.Outcome.Outcome, proofs.Transcripts.reaches_front, specs.Follows.Questions.Ends, specs.Follows.Questions.Asks}
 use Rattle.mlt_types.specs.declared.refusal.Refusal.{Refusal}
-use Rattle.mlt_script_serial.specs.declared.outcome.End.{End}
-use Rattle.mlt_script_serial.specs.declared.outcome.End.TheVariants.{Committed, Aborted, Refused}
-use Rattle.mlt_script_serial.specs.declared.outcome.Outcome.{Outcome}
 use Rattle.mlt_script_serial.specs.Serial.{IsScriptRun, AreRuns, mark_of, mark_of_end, answers_of}
-use Rattle.mlt_script_serial.proofs.Transcripts.{reaches_front}
-use Rattle.mlt_script_serial.specs.Follows.Questions.{Ends, Asks}
 
 -- Two transcripts of the same questions from one base are one, where both come to an end.
 one_transcript : (p : Questions) (b m n : Base) (t u : Transcript) (e f : Ending) → Reaches p t (Ends e) → Reaches p u (Ends f) → TranscriptLeads b t m → TranscriptLeads b u n

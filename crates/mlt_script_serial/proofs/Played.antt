@@ -2,13 +2,8 @@
 use Rattle.std.proofs.Common.{ℕ, [], ◌∷◌, Result, Ok, Err, OnErr, sym, ap, subst}
 use Rattle.mlt_types.specs.declared.refusal.Refusal.{Refusal}
 use Rattle.mlt_object_kinds.specs.Bases.{Base, TranscriptLeads, Transcript}
-use Rattle.mlt_script.specs.declared.statement.Ending.{Ending}
-use Rattle.mlt_script.specs.Scripts.{ScriptForm}
-use Rattle.mlt_script_serial.specs.Follows.{IsPartial}
-use Rattle.mlt_script_serial.specs.Calls.{Moves}
-use Rattle.mlt_script_serial.specs.Plays.{Gives, PlaysAt}
-use Rattle.mlt_script_serial.proofs.Transcripts.{is_partial}
-use Rattle.mlt_script_serial.specs.Answering.{AnswersOf}
+use Rattle.mlt_script.specs.{declared.statement.Ending.Ending, Scripts.ScriptForm}
+use Rattle.mlt_script_serial.{specs.Follows.IsPartial, specs.Calls.Moves, specs.Plays.Gives, specs.Plays.PlaysAt, proofs.Transcripts.is_partial, specs.Answering.AnswersOf}
 
 -- anything that answers as its base does
 module _ {D : Type 0} (base_of : D → Base) where

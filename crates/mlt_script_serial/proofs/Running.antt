@@ -2,15 +2,9 @@
 use Rattle.std.proofs.Common.{Some, None, cond, ⊎_elim, ◌≡◌, ℕ, ◌+◌, ◌<◌, ◌≤◌, List, [], ◌∷◌, length, drop, get_or, Bool, true, false, refl, sym, ap, ◌∙◌, subst, add-one, drop-cons}
 use Rattle.mlt_script_serial.proofs.Names.{drop_all, ObjOp, ObjReply, Line, Ending, Abort, Nowhere, ToElse, ToEnd, Next, Questions, Variables, IsNext, answered, goes_on, set_by, Ends, Asks, heard, heard_values, after_hearing}
 use Rattle.std.proofs.lemmas.Bool.{cases_lt}
-use Rattle.mlt_object_kinds.specs.declared.account.AccountOp.TheVariants.{Open}
-use Rattle.mlt_object_kinds.specs.declared.operation.ObjOp.TheVariants.{Account}
-use Rattle.mlt_script.specs.declared.statement.Asking.TheVariants.{Fixed}
-use Rattle.mlt_script.specs.declared.statement.Statement.TheVariants.{Ask}
-use Rattle.mlt_script.specs.declared.statement.Ending.TheVariants.{Commit}
-use Rattle.mlt_script_serial.specs.declared.skipping.Skipping.{Skipping}
-use Rattle.mlt_script_serial.specs.Follows.{IsAsking}
-use Rattle.mlt_script_serial.specs.Hearing.{question}
-use Rattle.mlt_script_serial.specs.Runs.{run, skipped, stops_at, is_settled}
+use Rattle.mlt_object_kinds.specs.declared.{account.AccountOp.TheVariants.Open, operation.ObjOp.TheVariants.Account}
+use Rattle.mlt_script.specs.declared.statement.{Asking.TheVariants.Fixed, Statement.TheVariants.Ask, Ending.TheVariants.Commit}
+use Rattle.mlt_script_serial.specs.{declared.skipping.Skipping.Skipping, Follows.IsAsking, Hearing.question, Runs.run, Runs.skipped, Runs.stops_at, Runs.is_settled}
 
 -- the line that is read past the end of lines
 abbrev pub some_line : Line

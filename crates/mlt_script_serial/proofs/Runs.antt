@@ -2,19 +2,8 @@
 use Rattle.std.proofs.Common.{◌≡◌, ℕ, ◌+◌, List, [], ◌∷◌, ◌++◌, Result, Ok, Err, length, arith, refl, sym, subst}
 use Rattle.mlt_object_kinds.specs.Bases.{Transcript}
 use Rattle.mlt_types.specs.declared.refusal.Refusal.{Refusal}
-use Rattle.mlt_script.specs.declared.statement.Ending.{Ending}
-use Rattle.mlt_script.specs.declared.statement.Ending.TheVariants.{Commit, Abort}
-use Rattle.mlt_script.specs.Scripts.{ScriptForm}
-use Rattle.mlt_script_serial.specs.Follows.{IsPartial, questions_of_script}
-use Rattle.mlt_script_serial.specs.Follows.Questions.{Ends}
-use Rattle.mlt_script_serial.specs.Calls.{Moves}
-use Rattle.mlt_script_serial.specs.Plays.{PlaysAt}
-use Rattle.mlt_script_serial.proofs.Transcripts.{is_partial}
-use Rattle.mlt_script_serial.specs.declared.outcome.End.{End}
-use Rattle.mlt_script_serial.specs.declared.outcome.End.TheVariants.{Committed, Aborted, Refused}
-use Rattle.mlt_script_serial.specs.declared.outcome.Outcome.{Outcome}
-use Rattle.mlt_script_serial.specs.DeskRuns.{ClosesAs, HasEndedAs}
-use Rattle.mlt_script_serial.specs.Clients.{AreOutcomes, AreRunsAt, IsServedAt, IsOutcome}
+use Rattle.mlt_script.specs.{declared.statement.Ending.Ending, declared.statement.Ending.TheVariants.Commit, declared.statement.Ending.TheVariants.Abort, Scripts.ScriptForm}
+use Rattle.mlt_script_serial.{specs.Follows.IsPartial, specs.Follows.questions_of_script, specs.Follows.Questions.Ends, specs.Calls.Moves, specs.Plays.PlaysAt, proofs.Transcripts.is_partial, specs.declared.outcome.End.End, specs.declared.outcome.End.TheVariants.Committed, specs.declared.outcome.End.TheVariants.Aborted, specs.declared.outcome.End.TheVariants.Refused, specs.declared.outcome.Outcome.Outcome, specs.DeskRuns.ClosesAs, specs.DeskRuns.HasEndedAs, specs.Clients.AreOutcomes, specs.Clients.AreRunsAt, specs.Clients.IsServedAt, specs.Clients.IsOutcome}
 
 -- a script that asked nothing was told a partial transcript
 pub nothing_is_partial : (s : ScriptForm) (t : Transcript) → t ≡ [] → IsPartial s t

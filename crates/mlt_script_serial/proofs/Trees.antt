@@ -2,8 +2,7 @@
 use Rattle.std.proofs.Common.{◌≡◌, ℕ, suc, List, [], ◌∷◌, ◌++◌, Bool, true, false, cond, refl, sym, ap, ◌∙◌, append-nil}
 use Rattle.mlt_script_serial.proofs.Names.{Line, Ending, Abort, Nowhere, ToElse, ToEnd, Block, lines_of, Nothing, Then, If, Questions, Variables, questions, goes_on, set_by, is_wanted, Ends, Asks}
 use Rattle.mlt_script.specs.TreeLaws.{regroup}
-use Rattle.mlt_script_serial.specs.Follows.{asked, asked_by}
-use Rattle.mlt_script_serial.specs.Runs.{run}
+use Rattle.mlt_script_serial.specs.{Follows.asked, Follows.asked_by, Runs.run}
 
 ext : {A : Type 0} {B : Type 0} (f g : A → B) → ((x : A) → f x ≡ g x) → f ≡ g
 ext f g h = λ i. λ x. h x i

@@ -2,10 +2,7 @@
 use Rattle.std.specs.Prelude.{◌≡◌}
 use Rattle.mlt_types.specs.declared.refusal.Refusal.TheVariants.{OutOfMemory}
 use Rattle.mlt_object_kinds.specs.Bases.{Base, Step}
-use Rattle.mlt_script_serial.specs.declared.call.DeskAnswer.{DeskAnswer}
-use Rattle.mlt_script_serial.specs.declared.call.DeskAnswer.TheVariants.{Refused, Replied}
-use Rattle.mlt_script_serial.specs.declared.call.DeskCall.{DeskCall}
-use Rattle.mlt_script_serial.specs.declared.call.DeskCall.TheVariants.{Operation}
+use Rattle.mlt_script_serial.specs.declared.call.{DeskAnswer.DeskAnswer, DeskAnswer.TheVariants.Refused, DeskAnswer.TheVariants.Replied, DeskCall.DeskCall, DeskCall.TheVariants.Operation}
 
 -- the reply of its step; or there is no memory for it, and nothing changes
 abbrev pub AnswersOf : Base → DeskCall → DeskAnswer → Base → Type 0

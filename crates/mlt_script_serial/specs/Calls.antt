@@ -1,10 +1,8 @@
 -- Calls of a desk and their answers.
 use Rattle.std.specs.Prelude.{Result, Ok, Err}
-use Rattle.mlt_types.specs.declared.refusal.Refusal.{Refusal}
-use Rattle.mlt_types.specs.declared.refusal.Refusal.TheVariants.{GaveUp}
-use Rattle.mlt_script_serial.specs.declared.call.DeskAnswer.{DeskAnswer}
+use Rattle.mlt_types.specs.declared.refusal.Refusal.{Refusal, TheVariants.GaveUp}
+use Rattle.mlt_script_serial.specs.declared.call.{DeskAnswer.DeskAnswer, DeskCall.DeskCall}
 use Rattle.mlt_script_serial.specs.declared.call.DeskAnswer.TheVariants.{Begun, Replied, Committed, Aborted, Refused}
-use Rattle.mlt_script_serial.specs.declared.call.DeskCall.{DeskCall}
 
 -- the moves of a desk: of the state before, a call, its answer and the state after
 abbrev pub Moves : Type 0 → Type 1

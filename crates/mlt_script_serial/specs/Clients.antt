@@ -3,11 +3,7 @@ use Rattle.std.specs.Prelude.{◌≡◌, ◌⊎◌, ℕ, ◌+◌, List, [], ◌�
 use Rattle.mlt_types.specs.declared.refusal.Refusal.TheVariants.{OutOfMemory}
 use Rattle.mlt_object_kinds.specs.Bases.{Transcript}
 use Rattle.mlt_script.specs.Scripts.{ScriptForm}
-use Rattle.mlt_script_serial.specs.Calls.{Moves}
-use Rattle.mlt_script_serial.specs.declared.outcome.End.{End}
-use Rattle.mlt_script_serial.specs.declared.outcome.End.TheVariants.{Refused}
-use Rattle.mlt_script_serial.specs.declared.outcome.Outcome.{Outcome}
-use Rattle.mlt_script_serial.specs.DeskRuns.{HasEndedAs, IsRunAt}
+use Rattle.mlt_script_serial.specs.{Calls.Moves, declared.outcome.End.End, declared.outcome.End.TheVariants.Refused, declared.outcome.Outcome.Outcome, DeskRuns.HasEndedAs, DeskRuns.IsRunAt}
 
 -- the outcome of a script, which is the n-th of its client
 pub record IsOutcome (s : ScriptForm) (n : ℕ) (o : Outcome) : Type 0 where

@@ -1,9 +1,6 @@
 -- What a cursor still asks.
 use Rattle.std.specs.Prelude.{ℕ, ◌-◌, length, drop}
-use Rattle.mlt_script_serial.specs.declared.cursor.Cursor.{Cursor}
-use Rattle.mlt_script_serial.specs.declared.skipping.Skipping.TheVariants.{Nowhere}
-use Rattle.mlt_script_serial.specs.Follows.{Questions}
-use Rattle.mlt_script_serial.specs.Runs.{run}
+use Rattle.mlt_script_serial.specs.{declared.cursor.Cursor.Cursor, declared.skipping.Skipping.TheVariants.Nowhere, Follows.Questions, Runs.run}
 
 -- what a script still asks, from the cursor on
 abbrev pub questions_of : Cursor → Questions

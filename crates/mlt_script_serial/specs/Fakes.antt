@@ -1,11 +1,7 @@
 -- What a desk with a list of answers gives.
 use Rattle.std.specs.Prelude.{◌≡◌, ◌+◌, length, slice_index_or, nat_lt, if◌then◌else◌}
 use Rattle.mlt_types.specs.declared.refusal.Refusal.TheVariants.{GaveUp}
-use Rattle.mlt_script_serial.specs.declared.call.DeskAnswer.{DeskAnswer}
-use Rattle.mlt_script_serial.specs.declared.call.DeskAnswer.TheVariants.{Aborted, Refused}
-use Rattle.mlt_script_serial.specs.declared.call.DeskCall.{DeskCall}
-use Rattle.mlt_script_serial.specs.Calls.{answer_to}
-use Rattle.mlt_script_serial.specs.declared.fake_desk.FakeDesk.{FakeDesk}
+use Rattle.mlt_script_serial.specs.{declared.call.DeskAnswer.DeskAnswer, declared.call.DeskAnswer.TheVariants.Aborted, declared.call.DeskAnswer.TheVariants.Refused, declared.call.DeskCall.DeskCall, Calls.answer_to, declared.fake_desk.FakeDesk.FakeDesk}
 
 -- the next answer; once all are given, a refusal
 abbrev pub next_answer : FakeDesk → DeskAnswer

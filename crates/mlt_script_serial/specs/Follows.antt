@@ -1,25 +1,9 @@
 -- What a script asks, and which transcripts follow it.
 use Rattle.std.specs.Prelude.{◌≡◌, ◌≤◌, ℕ, List, [], ◌∷◌, ◌++◌, length, Bool, true, false, ◌==◌, slice_index, slice_set, replicate, if◌then◌else◌}
-use Rattle.mlt_object_kinds.specs.declared.account.AccountOp.{AccountOp}
-use Rattle.mlt_object_kinds.specs.declared.counter.CounterOp.{CounterOp}
-use Rattle.mlt_object_kinds.specs.declared.operation.ObjOp.{ObjOp}
-use Rattle.mlt_object_kinds.specs.declared.operation.ObjOp.TheVariants.{Account, Counter, Size}
-use Rattle.mlt_object_kinds.specs.declared.operation.ObjReply.{ObjReply}
-use Rattle.mlt_object_kinds.specs.Bases.{Transcript}
-use Rattle.mlt_script.specs.declared.statement.Asking.{Asking}
-use Rattle.mlt_script.specs.declared.statement.Asking.TheVariants.{Fixed, By}
-use Rattle.mlt_script.specs.declared.statement.Wanted.{Wanted}
-use Rattle.mlt_script.specs.declared.statement.Source.{Source}
-use Rattle.mlt_script.specs.declared.statement.Statement.{Statement}
-use Rattle.mlt_script.specs.declared.statement.Statement.TheVariants.{Ask, Need, Let}
-use Rattle.mlt_script.specs.declared.statement.Ending.{Ending}
-use Rattle.mlt_script.specs.declared.statement.Ending.TheVariants.{Commit, Abort}
+use Rattle.mlt_object_kinds.specs.{declared.account.AccountOp.AccountOp, declared.counter.CounterOp.CounterOp, declared.operation.ObjOp.ObjOp, declared.operation.ObjOp.TheVariants.Account, declared.operation.ObjOp.TheVariants.Counter, declared.operation.ObjOp.TheVariants.Size, declared.operation.ObjReply.ObjReply, Bases.Transcript}
+use Rattle.mlt_script.specs.{declared.statement.Asking.Asking, declared.statement.Asking.TheVariants.Fixed, declared.statement.Asking.TheVariants.By, declared.statement.Wanted.Wanted, declared.statement.Source.Source, declared.statement.Statement.Statement, declared.statement.Statement.TheVariants.Ask, declared.statement.Statement.TheVariants.Need, declared.statement.Statement.TheVariants.Let, declared.statement.Ending.Ending, declared.statement.Ending.TheVariants.Commit, declared.statement.Ending.TheVariants.Abort, Blocks.Block, Blocks.Block.Nothing, Blocks.Block.Then, Blocks.Block.If, Amounts.with_amount, Scripts.ScriptForm}
 use Rattle.mlt_script_serial.specs.declared.cursor.Next.{Next}
-use Rattle.mlt_script.specs.Blocks.{Block}
-use Rattle.mlt_script.specs.Blocks.Block.{Nothing, Then, If}
-use Rattle.mlt_script.specs.Amounts.{with_amount}
 use Rattle.mlt_text_words.specs.Letters.{index_of}
-use Rattle.mlt_script.specs.Scripts.{ScriptForm}
 
 -- What is left of a script: its end, or an operation that it asks and how it goes on at each reply.
 pub data Questions : Type 0 where

@@ -1,15 +1,9 @@
 -- How a line of a script that asks goes on at a reply.
 use Rattle.std.specs.Prelude.{List, Option, Some, None, if◌then◌else◌}
 use Rattle.mlt_object_kinds.specs.declared.operation.ObjReply.{ObjReply}
-use Rattle.mlt_script_serial.specs.declared.cursor.Next.{Next}
-use Rattle.mlt_script_serial.specs.declared.skipping.Skipping.{Skipping}
-use Rattle.mlt_script_serial.specs.declared.skipping.Skipping.TheVariants.{Nowhere, ToElse}
-use Rattle.mlt_script.specs.declared.statement.Line.{Line}
-use Rattle.mlt_script.specs.declared.statement.Ending.{Ending}
-use Rattle.mlt_script.specs.declared.statement.Ending.TheVariants.{Abort}
+use Rattle.mlt_script_serial.specs.{declared.cursor.Next.Next, declared.skipping.Skipping.Skipping, declared.skipping.Skipping.TheVariants.Nowhere, declared.skipping.Skipping.TheVariants.ToElse, Follows.Questions.Ends, Runs.run}
+use Rattle.mlt_script.specs.declared.statement.{Line.Line, Ending.Ending, Ending.TheVariants.Abort}
 use Rattle.mlt_script_serial.specs.Follows.{Questions, Variables, asked, asked_by, goes_on, set_by, is_wanted}
-use Rattle.mlt_script_serial.specs.Follows.Questions.{Ends}
-use Rattle.mlt_script_serial.specs.Runs.{run}
 
 abbrev pub question : Line → Variables → Next
 question (Line.Plain s) vs = Next.Op (asked_by vs s)

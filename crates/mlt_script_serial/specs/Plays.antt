@@ -1,14 +1,9 @@
 -- Scripts that are played, over the relation of what answers them, of its states, calls and answers.
 use Rattle.std.specs.Prelude.{◌≡◌, ℕ, [], ◌∷◌, Result, Ok, Err}
 use Rattle.mlt_types.specs.declared.refusal.Refusal.{Refusal}
-use Rattle.mlt_object_kinds.specs.declared.operation.ObjOp.{ObjOp}
-use Rattle.mlt_object_kinds.specs.Bases.{Transcript}
-use Rattle.mlt_script.specs.declared.statement.Ending.{Ending}
-use Rattle.mlt_script.specs.Scripts.{ScriptForm}
-use Rattle.mlt_script_serial.specs.declared.call.DeskAnswer.TheVariants.{Refused, Replied}
-use Rattle.mlt_script_serial.specs.declared.call.DeskCall.TheVariants.{Operation}
-use Rattle.mlt_script_serial.specs.declared.cursor.Next.{Next}
-use Rattle.mlt_script_serial.specs.Calls.{Moves}
+use Rattle.mlt_object_kinds.specs.{declared.operation.ObjOp.ObjOp, Bases.Transcript}
+use Rattle.mlt_script.specs.{declared.statement.Ending.Ending, Scripts.ScriptForm}
+use Rattle.mlt_script_serial.specs.{declared.call.DeskAnswer.TheVariants.Refused, declared.call.DeskAnswer.TheVariants.Replied, declared.call.DeskCall.TheVariants.Operation, declared.cursor.Next.Next, Calls.Moves}
 use Rattle.mlt_script_serial.specs.Follows.{Follows, IsNext, Questions, Reaches, questions_of_script}
 
 module _ {D : Type 0} (moves : Moves D) where

@@ -1,12 +1,8 @@
 -- What the lines of a script ask, line by line, where a part that is left out is skipped.
 use Rattle.std.specs.Prelude.{ℕ, zero, suc, List, [], ◌∷◌, Bool, true, false, if◌then◌else◌}
-use Rattle.mlt_script.specs.declared.statement.Line.{Line}
-use Rattle.mlt_script.specs.declared.statement.Ending.{Ending}
-use Rattle.mlt_script.specs.declared.statement.Ending.TheVariants.{Abort}
-use Rattle.mlt_script_serial.specs.declared.skipping.Skipping.{Skipping}
-use Rattle.mlt_script_serial.specs.declared.skipping.Skipping.TheVariants.{Nowhere, ToElse, ToEnd}
+use Rattle.mlt_script.specs.declared.statement.{Line.Line, Ending.Ending, Ending.TheVariants.Abort}
+use Rattle.mlt_script_serial.specs.{declared.skipping.Skipping.Skipping, declared.skipping.Skipping.TheVariants.Nowhere, declared.skipping.Skipping.TheVariants.ToElse, declared.skipping.Skipping.TheVariants.ToEnd, Follows.Questions.Ends, Follows.Questions.Asks}
 use Rattle.mlt_script_serial.specs.Follows.{Questions, Variables, asked, asked_by, goes_on, set_by, is_wanted}
-use Rattle.mlt_script_serial.specs.Follows.Questions.{Ends, Asks}
 
 -- where it is skipped to once a line is skipped
 abbrev pub skipped : Line → Skipping → Skipping

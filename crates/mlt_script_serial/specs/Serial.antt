@@ -2,12 +2,8 @@
 use Rattle.std.specs.Prelude.{◌≡◌, ℕ, ◌+◌, List, [], ◌∷◌, ◌++◌, length, map, Option, Some, None, ◌==◌, count_by}
 use Rattle.mlt_types.specs.declared.refusal.Refusal.{Refusal}
 use Rattle.mlt_object_kinds.specs.Bases.{Base, TranscriptLeads, Transcript, empty_base}
-use Rattle.mlt_script.specs.declared.statement.Ending.TheVariants.{Commit, Abort}
-use Rattle.mlt_script.specs.Scripts.{ScriptForm}
-use Rattle.mlt_script_serial.specs.Follows.{Follows, IsPartial}
-use Rattle.mlt_script_serial.specs.declared.outcome.End.{End}
-use Rattle.mlt_script_serial.specs.declared.outcome.End.TheVariants.{Committed, Aborted, Refused}
-use Rattle.mlt_script_serial.specs.declared.outcome.Outcome.{Outcome}
+use Rattle.mlt_script.specs.{declared.statement.Ending.TheVariants.Commit, declared.statement.Ending.TheVariants.Abort, Scripts.ScriptForm}
+use Rattle.mlt_script_serial.specs.{Follows.Follows, Follows.IsPartial, declared.outcome.End.End, declared.outcome.End.TheVariants.Committed, declared.outcome.End.TheVariants.Aborted, declared.outcome.End.TheVariants.Refused, declared.outcome.Outcome.Outcome}
 
 -- A script runs from the base b, n scripts having committed before it. It is told the replies of the transcript, ends so,
 -- and leaves the base c, k scripts having committed.

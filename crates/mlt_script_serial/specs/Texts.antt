@@ -1,17 +1,9 @@
 -- The text of a report.
 use Rattle.std.specs.Prelude.{ℕ, List, [], ◌∷◌, ◌++◌, codes, flat_map}
-use Rattle.mlt_types.specs.declared.refusal.Refusal.{Refusal}
-use Rattle.mlt_types.specs.Refusals.{number_of, name_of}
-use Rattle.mlt_object_kinds.specs.declared.operation.ObjOp.{ObjOp}
-use Rattle.mlt_object_kinds.specs.declared.operation.ObjReply.{ObjReply}
-use Rattle.mlt_object_kinds.specs.Bases.{Base}
-use Rattle.mlt_object_kinds.specs.Texts.{with_number, reply_text}
+use Rattle.mlt_types.specs.{declared.refusal.Refusal.Refusal, Refusals.number_of, Refusals.name_of}
+use Rattle.mlt_object_kinds.specs.{declared.operation.ObjOp.ObjOp, declared.operation.ObjReply.ObjReply, Bases.Base, Texts.with_number, Texts.reply_text}
 use Rattle.mlt_object_base.specs.BaseText.{base_text}
-use Rattle.mlt_script_serial.specs.declared.outcome.End.{End}
-use Rattle.mlt_script_serial.specs.declared.outcome.End.TheVariants.{Committed, Aborted, Refused}
-use Rattle.mlt_script_serial.specs.declared.outcome.Outcome.{Outcome}
-use Rattle.mlt_script_serial.specs.declared.report.ReportForm.{ReportForm}
-use Rattle.mlt_script_serial.specs.declared.report.ReportForm.TheVariants.{Solo, Run}
+use Rattle.mlt_script_serial.specs.declared.{outcome.End.End, outcome.End.TheVariants.Committed, outcome.End.TheVariants.Aborted, outcome.End.TheVariants.Refused, outcome.Outcome.Outcome, report.ReportForm.ReportForm, report.ReportForm.TheVariants.Solo, report.ReportForm.TheVariants.Run}
 
 -- a text and the LF that ends it
 abbrev pub line : List ℕ → List ℕ

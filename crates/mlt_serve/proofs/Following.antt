@@ -1,18 +1,14 @@
 -- The operations of a session stand in the history in the order in which they were made.
 use Rattle.std.proofs.Common.{◌≡◌, inl, inr, ℕ, ◌+◌, ◌++◌, List, [], ◌∷◌, Option, Some, None, Bool, true, false, if◌then◌else◌, All, Contains, refl, sym, ap, subst, ◌∙◌, append_assoc}
 use Rattle.mlt_serve.proofs.Names.{All-append, All-nil, All-push, TraceItem, Outcome, Moves, StartsWith, ObjOp, ObjReply, DeskAnswer, DeskCall, IsSubsequence, ops_of-append, ops_of}
-use Rattle.mlt_event_text.specs.declared.command.Command.{Command}
-use Rattle.mlt_event_text.specs.declared.session_line.SessionLine.{SessionLine}
-use Rattle.mlt_event_text.specs.declared.session_line.SessionLine.TheVariants.{Says, TooLong}
+use Rattle.mlt_event_text.specs.declared.{command.Command.Command, session_line.SessionLine.SessionLine, session_line.SessionLine.TheVariants.Says, session_line.SessionLine.TheVariants.TooLong}
 use Rattle.mlt_script_serial.specs.Calls.{answer_to}
 use Rattle.mlt_script_serial.specs.declared.call.DeskAnswer.TheVariants.{Begun, Replied, Committed, Aborted, Refused}
-use Rattle.mlt_serve_session.proofs.Giving.{IsOpenOrNone}
-use Rattle.mlt_serve_session.specs.Desks.{Answers, Moved}
+use Rattle.mlt_serve_session.{proofs.Giving.IsOpenOrNone, specs.Desks.Answers, specs.Desks.Moved}
 use Rattle.mlt_serve_session.specs.Outcomes.{all_done, before_next, begins_by, begun_in, call_of, done_in, outcome_behind, outcome_if, outcomes_of, up_to}
 use Rattle.mlt_serve_session.specs.Talks.{Turn, answers_in, call_alone, call_for, call_within, calls_in, ends, one_turn, open_after, option_list, turns}
 use Rattle.mlt_work_desk.proofs.Seeing.{no_more}
-use Rattle.mlt_serve.proofs.Subsequences.{behind_more, both_parts, has_op}
-use Rattle.mlt_serve.proofs.Telling.{moves_of, run_more}
+use Rattle.mlt_serve.proofs.{Subsequences.behind_more, Subsequences.both_parts, Subsequences.has_op, Telling.moves_of, Telling.run_more}
 
 -- ---- turns
 

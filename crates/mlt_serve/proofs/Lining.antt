@@ -1,9 +1,7 @@
 -- Lines of items, one list after another.
 use Rattle.std.proofs.Common.{◌≡◌, ◌∙◌, ℕ, List, [], ◌∷◌, ◌++◌, Option, ap, subst, sym, append_assoc, append-nil, length, take, drop, take-append-drop}
-use Rattle.std.proofs.lemmas.List.{nil_from_length}
-use Rattle.std.proofs.KnownBytes.{Appends-trans}
-use Rattle.mlt_trace.specs.declared.item.TraceItem.{TraceItem}
-use Rattle.mlt_trace.specs.Lines.{AddsLines, AreLinesOf, spaced_line}
+use Rattle.std.proofs.{lemmas.List.nil_from_length, KnownBytes.Appends-trans}
+use Rattle.mlt_trace.specs.{declared.item.TraceItem.TraceItem, Lines.AddsLines, Lines.AreLinesOf, Lines.spaced_line}
 use Rattle.mlt_serve.specs.TraceLines.{WritesLines}
 
 lines_append : (items more : List TraceItem) (text rest : List ℕ) → AreLinesOf items text → AreLinesOf more rest → AreLinesOf (items ++ more) (text ++ rest)

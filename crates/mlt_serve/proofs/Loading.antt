@@ -2,8 +2,7 @@
 use Rattle.std.proofs.Common.{◌≡◌, ◌∙◌, ℕ, List, [], ◌++◌, Option, Some, None, IfSome, IsPermutation, ap, subst, sym, append-nil, length}
 use Rattle.std.proofs.lemmas.List.{nil_from_length}
 use Rattle.mlt_serve.proofs.Names.{Outcome, IsPermutation-trans}
-use Rattle.mlt_serve.specs.Loads.{HasLoaded, Heard, IsHeard, ends}
-use Rattle.mlt_serve.specs.declared.operating.Load.{Load}
+use Rattle.mlt_serve.specs.{Loads.HasLoaded, Loads.Heard, Loads.IsHeard, Loads.ends, declared.operating.Load.Load}
 
 -- where a session has heard all lines, and its outcomes are the first
 pub all_heard : (lines answers text rest : List ℕ) (before after : List Outcome) → Heard 1 (ends (Some lines) (Some [])) (ends (Some rest) (Some text)) before after

@@ -1,8 +1,7 @@
 -- Lists that are taken in one after another, the last one first.
 use Rattle.std.proofs.Common.{◌≡◌, ◌++◌, ◌∷◌, [], List, subst, ap, ◌∙◌, IsPermutation, flat_map, append_assoc, append-nil}
-use Rattle.std.proofs.lemmas.Grind.{flat_map-append}
+use Rattle.std.proofs.lemmas.{Grind.flat_map-append, List.Sorted.IsPermutation-append_comm, List.Sorted.IsPermutation-append_left}
 use Rattle.mlt_serve.proofs.Names.{IsPermutation-append_right, IsPermutation-trans}
-use Rattle.std.proofs.lemmas.List.Sorted.{IsPermutation-append_comm, IsPermutation-append_left}
 
 module _ {X A : Type 0} (f : X → List A) (xs : List X) (x : X) where
   last_last : flat_map f (xs ++ x ∷ []) ≡ flat_map f xs ++ f x

@@ -6,9 +6,7 @@ use Rattle.mlt_event_text.specs.Inputs.{lines_of}
 use Rattle.mlt_serve_session.specs.Talks.{Turn, closing, closing_answers, open_at_end, turn_text}
 use Rattle.mlt_serve_session.specs.Outcomes.{begins_by, begun_in, call_of, outcome_if, outcome_behind, outcomes_of}
 use Rattle.mlt_serve_session.specs.Sessions.{Acted, BrokenOff, HeardAll, Scene, Spoken, SpokenLong, Summed}
-use Rattle.mlt_serve.specs.Loads.{Heard, ends}
-use Rattle.mlt_serve.proofs.Following.{AreTurns, all_in_order, are_turns, first_turns}
-use Rattle.mlt_serve.proofs.Telling.{all_told, moves_of, run_more}
+use Rattle.mlt_serve.{specs.Loads.Heard, specs.Loads.ends, proofs.Following.AreTurns, proofs.Following.all_in_order, proofs.Following.are_turns, proofs.Following.first_turns, proofs.Telling.all_told, proofs.Telling.moves_of, proofs.Telling.run_more}
 
 one_of_client : (client number : ℕ) (began : Option ℕ) (behind : List Turn) → All (IsOf client) (outcome_if client number began behind)
 one_of_client client number None behind = All-nil (IsOf client)

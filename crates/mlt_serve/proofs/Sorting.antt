@@ -1,9 +1,6 @@
 -- Outcomes that were sorted by client and then by number.
 use Rattle.std.proofs.Common.{◌≡◌, ℕ, zero, suc, ◌+◌, ◌-◌, ◌<◌, ◌≤◌, List, length, get_or, false, IsSortedByKey, refl, sym, subst, ◌∙◌, inl, inr, arith, is_lt, nat_cmp}
-use Rattle.std.specs.Ordering.{ordering_then}
-use Rattle.std.specs.declared.cmp.Ordering.{Ordering}
-use Rattle.std.specs.declared.cmp.Ordering.TheVariants.{Less, Equal, Greater}
-use Rattle.std.specs.Cmp.{ranked}
+use Rattle.std.specs.{Ordering.ordering_then, declared.cmp.Ordering.Ordering, declared.cmp.Ordering.TheVariants.Less, declared.cmp.Ordering.TheVariants.Equal, declared.cmp.Ordering.TheVariants.Greater, Cmp.ranked}
 use Rattle.mlt_serve.proofs.Names.{Outcome}
 use Rattle.mlt_serve.specs.Clients.{AreByClientAndNumber, MayPrecede}
 

@@ -1,17 +1,13 @@
 -- A history tells all that is in outcomes, as it grows, and as others come behind them.
 use Rattle.std.proofs.Common.{◌≡◌, ◌++◌, append-nil, List, [], ◌∷◌, All, ℕ, ap, subst, sym, get_or, Contains, IsPermutation}
-use Rattle.std.proofs.lemmas.Grind.{merely}
+use Rattle.std.proofs.lemmas.{Grind.merely, List.Elements.Contains-append_left, List.Elements.Contains-append_right}
 use Rattle.mlt_serve.proofs.Names.{All-append, All-nil, All-weaker, All-permutation, TraceItem, Outcome, Moves, StartsWith, GrowsFor, TellsOutcomes, DeskAnswer, DeskCall, ops_of-append, ops_of, IsSubsequence}
-use Rattle.std.proofs.lemmas.List.Elements.{Contains-append_left, Contains-append_right}
 use mathlib.Core.Logic.{∥∥₁_map}
 use Rattle.mlt_script_serial.specs.declared.outcome.End.{End}
 use Rattle.mlt_types.specs.declared.refusal.Refusal.{Refusal}
-use Rattle.mlt_serve_session.specs.Desks.{Answers}
-use Rattle.mlt_serve_session.specs.Given.{Gave, GaveAll, GaveEnd}
-use Rattle.mlt_work_desk.specs.Holds.{SeesAnswer}
-use Rattle.mlt_work_desk.proofs.Seeing.{more_than, no_more}
-use Rattle.mlt_serve.proofs.Subsequences.{before_more}
-use Rattle.mlt_serve.specs.Tellings.{TellsAll, TellsEnd, TellsOutcome}
+use Rattle.mlt_serve_session.specs.{Desks.Answers, Given.Gave, Given.GaveAll, Given.GaveEnd}
+use Rattle.mlt_work_desk.{specs.Holds.SeesAnswer, proofs.Seeing.more_than, proofs.Seeing.no_more}
+use Rattle.mlt_serve.{proofs.Subsequences.before_more, specs.Tellings.TellsAll, specs.Tellings.TellsEnd, specs.Tellings.TellsOutcome}
 
 -- at a begin that was refused a desk has seen no more
 pub refused_begin : {P : Type 0} (bits_of : P → ℕ → ℕ) (items : List TraceItem) (r : Refusal) → SeesAnswer bits_of items DeskCall.Begin (DeskAnswer.Refused r) items

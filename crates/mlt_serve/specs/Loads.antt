@@ -1,11 +1,9 @@
 -- Bases that were loaded.
 use Rattle.std.specs.Prelude.{◌≡◌, ℕ, List, ◌++◌, Option, IfSome, IsPermutation, flat_map}
 use Rattle.std.specs.Io.KnownBytes.{Appends, Consumes}
-use Rattle.mlt_script_serial.specs.declared.call.DeskAnswer.{DeskAnswer}
-use Rattle.mlt_script_serial.specs.declared.outcome.Outcome.{Outcome}
+use Rattle.mlt_script_serial.specs.declared.{call.DeskAnswer.DeskAnswer, outcome.Outcome.Outcome}
 use Rattle.mlt_serve.specs.declared.operating.Load.{Load}
-use Rattle.mlt_serve_session.specs.Outcomes.{outcomes_of}
-use Rattle.mlt_serve_session.specs.Talks.{session_turns, turn_text}
+use Rattle.mlt_serve_session.specs.{Outcomes.outcomes_of, Talks.session_turns, Talks.turn_text}
 
 -- a session of this client heard just these lines, was told just this text, and has these outcomes, by the answers that a desk has given
 pub record IsHeard (client : ℕ) (lines text : List ℕ) (outcomes : List Outcome) : Type 0 where

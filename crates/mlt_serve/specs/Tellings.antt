@@ -1,8 +1,7 @@
 -- Histories that tell all that is in outcomes.
 use Rattle.std.specs.Prelude.{◌≡◌, ℕ, List, [], ◌∷◌, ◌++◌, All, Contains}
 use Rattle.mlt_trace.specs.declared.item.TraceItem.{TraceItem}
-use Rattle.mlt_script_serial.specs.declared.outcome.End.{End}
-use Rattle.mlt_script_serial.specs.declared.outcome.Outcome.{Outcome}
+use Rattle.mlt_script_serial.specs.declared.outcome.{End.End, Outcome.Outcome}
 use Rattle.mlt_trace_audit.specs.Outcomes.{ops_of}
 
 -- the first list is what is left of the other one without some of its elements

@@ -1,19 +1,9 @@
 -- The answer to a request.
 use Rattle.std.specs.Prelude.{◌≡◌, ◌↔◌, ◌⊎◌, ℕ, List, [], ◌∷◌, ◌++◌, codes, Bool, IsTrue, Some}
-use Rattle.http.specs.declared.request.Request.{Request}
-use Rattle.http.specs.Request.{head_of}
-use Rattle.http.specs.HeaderMap.{Entries, get}
-use Rattle.http.specs.FieldValue.{FieldValue}
-use Rattle.http.specs.Uri.{uri_path}
+use Rattle.http.specs.{declared.request.Request.Request, Request.head_of, HeaderMap.Entries, HeaderMap.get, FieldValue.FieldValue, Uri.uri_path}
 use Rattle.http_server.specs.declared.response.Response.{Response}
-use Rattle.mlt_serve_admin.specs.declared.resources.Resource.{Resource}
+use Rattle.mlt_serve_admin.specs.{declared.resources.Resource.Resource, declared.replies.Content.Content, declared.routes.Route.Route, Resources.methods_of, Replies.HasHead, Replies.headers_of, Replies.IsReply, Routes.IsRouteOf, Hosts.IsDirectRequest}
 use Rattle.mlt_serve_admin.specs.declared.resources.Resource.TheVariants.{Page, Status, Metrics, Waits, Sessions, Base, Stop, SessionEnd}
-use Rattle.mlt_serve_admin.specs.declared.replies.Content.{Content}
-use Rattle.mlt_serve_admin.specs.declared.routes.Route.{Route}
-use Rattle.mlt_serve_admin.specs.Resources.{methods_of}
-use Rattle.mlt_serve_admin.specs.Replies.{HasHead, headers_of, IsReply}
-use Rattle.mlt_serve_admin.specs.Routes.{IsRouteOf}
-use Rattle.mlt_serve_admin.specs.Hosts.{IsDirectRequest}
 
 -- the answer to a request that is open for this resource. Where it says so the server was told to end, or to cut the session of
 -- this client: `stopped` and `cut` are what holds then

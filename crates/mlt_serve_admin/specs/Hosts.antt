@@ -1,12 +1,7 @@
 -- The hosts by which a request may name the server: those that are not looked up in DNS.
 use Rattle.std.specs.Prelude.{◌≡◌, ◌⊎◌, ℕ, List, ◌++◌, codes, IsTrue, IfSome, IsSomeAnd}
-use Rattle.std.specs.Str.{str_eq_ignore_ascii_case}
-use Rattle.std.specs.Net.Grammar.{IsIpv4Text, IsIpv6Text}
-use Rattle.std.specs.declared.net.ipv4_addr.Ipv4Addr.{Ipv4Addr}
-use Rattle.std.specs.declared.net.ipv6_addr.Ipv6Addr.{Ipv6Addr}
-use Rattle.http.specs.HeaderMap.{Entries, get}
-use Rattle.http.specs.FieldValue.{FieldValue}
-use Rattle.http.specs.Grammar.{IsAuthority, authority_host}
+use Rattle.std.specs.{Str.str_eq_ignore_ascii_case, Net.Grammar.IsIpv4Text, Net.Grammar.IsIpv6Text, declared.net.ipv4_addr.Ipv4Addr.Ipv4Addr, declared.net.ipv6_addr.Ipv6Addr.Ipv6Addr}
+use Rattle.http.specs.{HeaderMap.Entries, HeaderMap.get, FieldValue.FieldValue, Grammar.IsAuthority, Grammar.authority_host}
 
 -- an IPv6 address in brackets
 abbrev pub IsIpv6InBrackets : List ℕ → Type 0

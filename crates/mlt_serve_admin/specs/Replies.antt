@@ -1,7 +1,6 @@
 -- Replies to requests: their status and their headers.
 use Rattle.std.specs.Prelude.{◌≡◌, ℕ, List, [], ◌∷◌, codes}
-use Rattle.http_server.specs.declared.response.Response.{Response}
-use Rattle.http_server.specs.Response.{fields_of}
+use Rattle.http_server.specs.{declared.response.Response.Response, Response.fields_of}
 use Rattle.mlt_serve_admin.specs.declared.replies.Content.{Content}
 
 -- the content type of a body

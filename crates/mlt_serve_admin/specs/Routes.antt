@@ -1,8 +1,6 @@
 -- How a request is answered, by its method, its path, whether it is direct and whether it is marked.
 use Rattle.std.specs.Prelude.{◌≡◌, ℕ, List, Bool, IsTrue, IsFalse}
-use Rattle.mlt_serve_admin.specs.declared.resources.Resource.{Resource}
-use Rattle.mlt_serve_admin.specs.declared.routes.Route.{Route}
-use Rattle.mlt_serve_admin.specs.Resources.{changes, IsAt, IsMethodOf}
+use Rattle.mlt_serve_admin.specs.{declared.resources.Resource.Resource, declared.routes.Route.Route, Resources.changes, Resources.IsAt, Resources.IsMethodOf}
 
 -- the route of a request for this resource
 abbrev pub IsRouteTo : Resource → List ℕ → Bool → Route → Type 0

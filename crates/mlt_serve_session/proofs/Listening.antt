@@ -1,13 +1,9 @@
 -- A session that goes on, and how it ends.
 use Rattle.std.proofs.Common.{◌≡◌, ◌⊎◌, inl, inr, ℕ, ◌+◌, ◌≤◌, List, [], ◌∷◌, ◌++◌, length, take, drop, Option, Bool, true, false, refl, sym, ap, subst, ◌∙◌, arith, append_assoc, append-nil, take-append-drop, length-append, length-take, take_all, flat_map}
-use Rattle.std.proofs.Math.Seq.{take-append_seam}
+use Rattle.std.{proofs.Math.Seq.take-append_seam, specs.Io.KnownBytes.Appends, proofs.KnownBytes.Appends-trans, proofs.KnownBytes.Consumes-trans}
 use Rattle.mlt_serve_session.proofs.Names.{map-append, flat_map-append, Consumes, IsAtEnd, Appends-nil, Consumes-nil, AppendsFront, SessionLine, Covers, IsRest, front, lines_in, lines_of, Begins, Splits, Listens, Talked, Broken, BrokenHeard, Heard, AreLines, EndsInput, streams, Turn, turn_text, TalkState, Goes, splits_both, Moves}
-use Rattle.std.specs.Io.KnownBytes.{Appends}
-use Rattle.std.proofs.KnownBytes.{Appends-trans, Consumes-trans}
-use Rattle.mlt_serve_session.specs.Batches.{Answered}
-use Rattle.mlt_serve_session.specs.Rounds.{Replied, Stopped, Unwritten}
+use Rattle.mlt_serve_session.{specs.Batches.Answered, specs.Rounds.Replied, specs.Rounds.Stopped, specs.Rounds.Unwritten, proofs.Reaching.covers_all, proofs.Reaching.covers_begin}
 use Rattle.mlt_event_text.proofs.Splitting.{splits_none, prefix_lines, prefix_begins}
-use Rattle.mlt_serve_session.proofs.Reaching.{covers_all, covers_begin}
 
 -- turns, and then more turns
 goes_on : {D : Type 0} (moves : Moves D) (client : ℕ) (p m q : TalkState D) (ts us : List Turn) → Goes moves client p ts m → Goes moves client m us q → Goes moves client p (ts ++ us) q

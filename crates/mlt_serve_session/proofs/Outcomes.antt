@@ -1,10 +1,8 @@
 -- What a session answers, by how it went.
 use Rattle.std.proofs.Common.{◌≡◌, ℕ, sym, ap, subst, ◌∙◌, inl, inr, ◌⊎◌, Result, Ok, Err, IfOk, IsErrAnd, IsErrOf}
 use Rattle.mlt_serve_session.proofs.Names.{err_from_is_err_and, Moves, BrokenOff, HeardAll, SpokenLong, Summed}
-use Rattle.mlt_types.specs.declared.refusal.Refusal.{Refusal}
-use Rattle.mlt_types.specs.declared.refusal.Refusal.TheVariants.{Io, LineTooLong, OutOfMemory}
-use Rattle.mlt_serve_session.specs.declared.sessions.Summary.{Summary}
-use Rattle.mlt_serve_session.specs.Sessions.{Scene, SessionAnswers}
+use Rattle.mlt_types.specs.declared.refusal.Refusal.{Refusal, TheVariants.Io, TheVariants.LineTooLong, TheVariants.OutOfMemory}
+use Rattle.mlt_serve_session.specs.{declared.sessions.Summary.Summary, Sessions.Scene, Sessions.SessionAnswers}
 
 module _ {D : Type 0} (moves : Moves D) (client : ℕ) (old new : Scene D) where
   -- it ended by itself

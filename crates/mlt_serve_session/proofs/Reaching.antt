@@ -2,11 +2,8 @@
 use Rattle.std.proofs.Common.{◌≡◌, ℕ, ◌+◌, ◌-◌, List, [], ◌∷◌, ◌++◌, length, take, drop, Bool, true, false, Some, refl, sym, ap, subst, ◌∙◌, arith, append_assoc, append-nil, take-append-drop, length-drop, flat_map, Result, Err, IsErrAnd, IsErrOf}
 use Rattle.mlt_serve_session.proofs.Names.{take-add, map-append, flat_map-append, err_from_is_err_and, SessionLine, Says, TooLong, Covers, IsRest, Reaches, front, lines_in, AreLines, lines_of, Splits, Begins, splits_both, Turn, turn_text, ends, TalkState, Step, Goes, Moves}
 use Rattle.std.proofs.lemmas.List.{take_rest}
-use Rattle.mlt_serve_session.specs.declared.said.Said.{Said}
-use Rattle.mlt_serve_session.specs.Batches.{BrokeOff}
+use Rattle.mlt_serve_session.specs.{declared.said.Said.Said, Batches.BrokeOff, Texts.said_text, Turns.TakesTurn}
 use Rattle.mlt_event_text.specs.Inputs.{NextLine, IsNext}
-use Rattle.mlt_serve_session.specs.Texts.{said_text}
-use Rattle.mlt_serve_session.specs.Turns.{TakesTurn}
 
 -- an error that was passed on is the same one
 pub same_error : {S T E : Type 0} (result : Result T E) (e x : E) → IsErrAnd result (λ y. y ≡ e) → IsErrOf result x → IsErrOf {T = S} {E = E} (Err e) x

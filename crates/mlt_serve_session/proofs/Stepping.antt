@@ -1,9 +1,7 @@
 -- One turn of a session.
 use Rattle.std.proofs.Common.{◌≡◌, ℕ, ◌+◌, Option, Some, None, refl, sym, ap, ◌∙◌, subst, arith}
 use Rattle.mlt_serve_session.proofs.Names.{DeskAnswer, Committed, DeskCall, noted, TalkState, Asked, Moves}
-use Rattle.mlt_serve_session.specs.declared.notes.Progress.{Progress}
-use Rattle.mlt_serve_session.specs.Turns.{after_answer}
-use Rattle.mlt_serve_session.specs.Desks.{Moved}
+use Rattle.mlt_serve_session.specs.{declared.notes.Progress.Progress, Turns.after_answer, Desks.Moved}
 
 -- nothing was answered
 pub unanswered : (p : Progress) → after_answer p None ≡ p

@@ -1,10 +1,7 @@
 -- The turns that were taken are those that the whole input and the answers fix.
 use Rattle.std.proofs.Common.{◌≡◌, ℕ, ◌+◌, List, [], ◌∷◌, ◌++◌, length, take, Option, Bool, true, false, ◌||◌, Some, None, refl, sym, ap, subst, ◌∙◌, arith, append-nil, cond}
 use Rattle.mlt_serve_session.proofs.Names.{Acted, Appends-nil, Consumes-nil, All-nil, empty, Outcome, DeskAnswer, DeskCall, SessionLine, Says, TooLong, lines_in, Moves, Begins, GaveAll, begins_by, outcomes_of, Talked, Broken, BrokenHeard, AreLines, EndsInput, streams, SpokenLong, Summed, BrokenOff, HeardAll, Turn, turns, ends, open_after, call_for, TalkState, Step, Goes, Asked}
-use Rattle.mlt_serve_session.proofs.Giving.{gave_all}
-use Rattle.mlt_serve_session.proofs.Receiving.{noted_by, noted_all, all_noted}
-use Rattle.mlt_serve_session.specs.Desks.{Answers}
-use Rattle.mlt_serve_session.specs.Sessions.{Spoken, all_calls, all_answers, scene}
+use Rattle.mlt_serve_session.{proofs.Giving.gave_all, proofs.Receiving.noted_by, proofs.Receiving.noted_all, proofs.Receiving.all_noted, specs.Desks.Answers, specs.Sessions.Spoken, specs.Sessions.all_calls, specs.Sessions.all_answers, specs.Sessions.scene}
 use Rattle.mlt_serve_session.specs.Talks.{one_turn, unless_ended, option_list, calls_in, answers_in, open_at_end, closing, closing_answers, session_turns, commits_by, commits_in, ends_in, long_in, is_long}
 
 or_false : (b : Bool) → b || false ≡ b

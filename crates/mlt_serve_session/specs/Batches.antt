@@ -1,9 +1,7 @@
 -- The complete lines of one read.
 use Rattle.std.specs.Prelude.{◌≡◌, ◌≤◌, ℕ, List, [], ◌++◌, length, take, drop, map, Bool, true, false, flat_map}
-use Rattle.mlt_event_text.specs.declared.session_line.SessionLine.{SessionLine}
-use Rattle.mlt_event_text.specs.Inputs.{lines_of, Splits, Begins}
-use Rattle.mlt_serve_session.specs.Talks.{Turn, turn_text}
-use Rattle.mlt_serve_session.specs.Turns.{TalkState, Goes}
+use Rattle.mlt_event_text.specs.{declared.session_line.SessionLine.SessionLine, Inputs.lines_of, Inputs.Splits, Inputs.Begins}
+use Rattle.mlt_serve_session.specs.{Talks.Turn, Talks.turn_text, Turns.TalkState, Turns.Goes}
 use Rattle.mlt_script_serial.specs.Calls.{Moves}
 
 -- a text, and how far into it

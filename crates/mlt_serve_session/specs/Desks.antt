@@ -1,8 +1,6 @@
 -- Runs of a desk.
 use Rattle.std.specs.Prelude.{◌≡◌, ℕ, List, [], ◌∷◌, Option, Some, None}
-use Rattle.mlt_script_serial.specs.declared.call.DeskAnswer.{DeskAnswer}
-use Rattle.mlt_script_serial.specs.declared.call.DeskCall.{DeskCall}
-use Rattle.mlt_script_serial.specs.Calls.{Moves, answer_to}
+use Rattle.mlt_script_serial.specs.{declared.call.DeskAnswer.DeskAnswer, declared.call.DeskCall.DeskCall, Calls.Moves, Calls.answer_to}
 
 -- the desk moves so, and the answer is one to the call
 abbrev pub Moved : {D : Type 0} → Moves D → Moves D

@@ -1,13 +1,7 @@
 -- Outcomes in which all is what a desk answered.
 use Rattle.std.specs.Prelude.{ℕ, List, All}
-use Rattle.mlt_object_kinds.specs.declared.operation.ObjOp.{ObjOp}
-use Rattle.mlt_object_kinds.specs.declared.operation.ObjReply.{ObjReply}
-use Rattle.mlt_script_serial.specs.declared.outcome.End.{End}
-use Rattle.mlt_script_serial.specs.declared.outcome.Outcome.{Outcome}
-use Rattle.mlt_script_serial.specs.declared.call.DeskAnswer.{DeskAnswer}
-use Rattle.mlt_script_serial.specs.declared.call.DeskAnswer.TheVariants.{Begun, Replied, Committed}
-use Rattle.mlt_script_serial.specs.declared.call.DeskCall.{DeskCall}
-use Rattle.mlt_script_serial.specs.Calls.{Moves}
+use Rattle.mlt_object_kinds.specs.declared.operation.{ObjOp.ObjOp, ObjReply.ObjReply}
+use Rattle.mlt_script_serial.specs.{declared.outcome.End.End, declared.outcome.Outcome.Outcome, declared.call.DeskAnswer.DeskAnswer, declared.call.DeskAnswer.TheVariants.Begun, declared.call.DeskAnswer.TheVariants.Replied, declared.call.DeskAnswer.TheVariants.Committed, declared.call.DeskCall.DeskCall, Calls.Moves}
 use Rattle.mlt_serve_session.specs.Desks.{Answers}
 
 -- a desk that moves so comes from the one state to the other by some calls

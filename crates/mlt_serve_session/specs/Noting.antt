@@ -1,15 +1,8 @@
 -- The outcomes of a session so far, and what an answer makes of them.
 use Rattle.std.specs.Prelude.{ℕ, ◌+◌, List, [], ◌∷◌, ◌++◌, Option, Some, None}
-use Rattle.mlt_object_kinds.specs.declared.operation.ObjOp.{ObjOp}
-use Rattle.mlt_object_kinds.specs.declared.operation.ObjReply.{ObjReply}
-use Rattle.mlt_script_serial.specs.declared.outcome.End.{End}
-use Rattle.mlt_script_serial.specs.declared.outcome.Outcome.{Outcome}
-use Rattle.mlt_script_serial.specs.declared.call.DeskAnswer.{DeskAnswer}
-use Rattle.mlt_script_serial.specs.declared.call.DeskAnswer.TheVariants.{Begun, Replied, Committed}
-use Rattle.mlt_script_serial.specs.declared.call.DeskCall.{DeskCall}
-use Rattle.mlt_serve_session.specs.declared.notes.SessionRecord.{SessionRecord}
-use Rattle.mlt_serve_session.specs.declared.receipts.Receipts.{Ghosts}
-use Rattle.mlt_serve_session.specs.Outcomes.{outcome_of}
+use Rattle.mlt_object_kinds.specs.declared.operation.{ObjOp.ObjOp, ObjReply.ObjReply}
+use Rattle.mlt_script_serial.specs.declared.{outcome.End.End, outcome.Outcome.Outcome, call.DeskAnswer.DeskAnswer, call.DeskAnswer.TheVariants.Begun, call.DeskAnswer.TheVariants.Replied, call.DeskAnswer.TheVariants.Committed, call.DeskCall.DeskCall}
+use Rattle.mlt_serve_session.specs.{declared.notes.SessionRecord.SessionRecord, declared.receipts.Receipts.Ghosts, Outcomes.outcome_of}
 
 -- the outcome of the transaction that is open, if one is: it would be taken back now
 abbrev pub pending : ℕ → ℕ → Option ℕ → List (ObjOp × ObjReply) → List Outcome

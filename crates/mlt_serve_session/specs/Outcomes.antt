@@ -1,12 +1,7 @@
 -- What became of the transactions of a session.
 use Rattle.std.specs.Prelude.{ℕ, ◌+◌, List, [], ◌∷◌, ◌++◌, Option, Some, None}
-use Rattle.mlt_object_kinds.specs.declared.operation.ObjOp.{ObjOp}
-use Rattle.mlt_object_kinds.specs.declared.operation.ObjReply.{ObjReply}
-use Rattle.mlt_script_serial.specs.declared.outcome.End.{End}
-use Rattle.mlt_script_serial.specs.declared.outcome.Outcome.{Outcome}
-use Rattle.mlt_script_serial.specs.declared.call.DeskAnswer.{DeskAnswer}
-use Rattle.mlt_script_serial.specs.declared.call.DeskAnswer.TheVariants.{Begun, Replied, Committed}
-use Rattle.mlt_script_serial.specs.declared.call.DeskCall.{DeskCall}
+use Rattle.mlt_object_kinds.specs.declared.operation.{ObjOp.ObjOp, ObjReply.ObjReply}
+use Rattle.mlt_script_serial.specs.declared.{outcome.End.End, outcome.Outcome.Outcome, call.DeskAnswer.DeskAnswer, call.DeskAnswer.TheVariants.Begun, call.DeskAnswer.TheVariants.Replied, call.DeskAnswer.TheVariants.Committed, call.DeskCall.DeskCall}
 use Rattle.mlt_serve_session.specs.Talks.{Turn, call_for}
 
 -- what became of a transaction of a client

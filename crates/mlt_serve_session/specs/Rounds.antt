@@ -2,12 +2,9 @@
 use Rattle.std.specs.Prelude.{◌≡◌, ◌≤◌, ◌+◌, ℕ, List, [], ◌++◌, length, take, drop, Option, Bool, true, false, flat_map}
 use Rattle.std.specs.Io.KnownBytes.{Appends, Consumes, IsAtEnd}
 use Rattle.mlt_text.specs.Texts.{AppendsFront}
-use Rattle.mlt_event_text.specs.declared.session_line.SessionLine.{SessionLine}
-use Rattle.mlt_serve_session.specs.Batches.{Covers, Front, IsRest, lines_in}
-use Rattle.mlt_event_text.specs.Inputs.{lines_of, Splits, Begins}
+use Rattle.mlt_event_text.specs.{declared.session_line.SessionLine.SessionLine, Inputs.lines_of, Inputs.Splits, Inputs.Begins}
+use Rattle.mlt_serve_session.specs.{Batches.Covers, Batches.Front, Batches.IsRest, Batches.lines_in, Talks.Turn, Talks.turn_text, Turns.TalkState, Turns.Goes}
 use Rattle.mlt_script_serial.specs.Calls.{Moves}
-use Rattle.mlt_serve_session.specs.Talks.{Turn, turn_text}
-use Rattle.mlt_serve_session.specs.Turns.{TalkState, Goes}
 
 -- the bytes that a reader has left and those that a writer took, where these are known, before and after
 pub record Streams : Type 0 where

@@ -1,17 +1,10 @@
 -- Whole sessions.
 use Rattle.std.specs.Prelude.{◌≡◌, ◌≤◌, ℕ, List, All, ◌++◌, length, take, Option, None, true, false, Result, IfOk, IsErrOf, flat_map}
-use Rattle.mlt_types.specs.declared.refusal.Refusal.{Refusal}
-use Rattle.mlt_types.specs.declared.refusal.Refusal.TheVariants.{Io, LineTooLong, OutOfMemory}
-use Rattle.mlt_script_serial.specs.declared.outcome.Outcome.{Outcome}
+use Rattle.mlt_types.specs.declared.refusal.Refusal.{Refusal, TheVariants.Io, TheVariants.LineTooLong, TheVariants.OutOfMemory}
+use Rattle.mlt_script_serial.specs.{declared.outcome.Outcome.Outcome, declared.call.DeskAnswer.DeskAnswer, declared.call.DeskCall.DeskCall, Calls.Moves}
 use Rattle.std.specs.Io.KnownBytes.{Appends, Consumes, IsAtEnd}
 use Rattle.mlt_text.specs.Texts.{AppendsFront}
-use Rattle.mlt_script_serial.specs.declared.call.DeskAnswer.{DeskAnswer}
-use Rattle.mlt_script_serial.specs.declared.call.DeskCall.{DeskCall}
-use Rattle.mlt_serve_session.specs.declared.sessions.Summary.{Summary}
-use Rattle.mlt_script_serial.specs.Calls.{Moves}
-use Rattle.mlt_serve_session.specs.Desks.{Answers}
-use Rattle.mlt_serve_session.specs.Given.{GaveAll}
-use Rattle.mlt_serve_session.specs.Outcomes.{outcomes_of}
+use Rattle.mlt_serve_session.specs.{declared.sessions.Summary.Summary, Desks.Answers, Given.GaveAll, Outcomes.outcomes_of}
 use Rattle.mlt_serve_session.specs.Talks.{Turn, turn_text, calls_in, answers_in, closing, closing_answers, open_at_end, session_turns, commits_in, ends_in, long_in}
 
 -- what a session asked of its desk in these turns, and at its end

@@ -1,15 +1,10 @@
 -- What a session says, as a function of its whole input and of the desk's answers in order.
 use Rattle.std.specs.Prelude.{ℕ, ◌+◌, List, [], ◌∷◌, Option, Some, None, Bool, true, false, ◌||◌, if◌then◌else◌, flat_map}
 use Rattle.mlt_types.specs.declared.refusal.Refusal.{Refusal}
-use Rattle.mlt_event_text.specs.declared.command.Command.{Command}
-use Rattle.mlt_script_serial.specs.declared.call.DeskAnswer.{DeskAnswer}
+use Rattle.mlt_event_text.specs.{declared.command.Command.Command, declared.session_line.SessionLine.SessionLine, declared.session_line.SessionLine.TheVariants.Says, declared.session_line.SessionLine.TheVariants.TooLong, Inputs.lines_of}
+use Rattle.mlt_script_serial.specs.declared.call.{DeskAnswer.DeskAnswer, DeskCall.DeskCall}
 use Rattle.mlt_script_serial.specs.declared.call.DeskAnswer.TheVariants.{Begun, Replied, Committed, Aborted, Refused}
-use Rattle.mlt_script_serial.specs.declared.call.DeskCall.{DeskCall}
-use Rattle.mlt_event_text.specs.declared.session_line.SessionLine.{SessionLine}
-use Rattle.mlt_event_text.specs.declared.session_line.SessionLine.TheVariants.{Says, TooLong}
-use Rattle.mlt_serve_session.specs.declared.said.Said.{Said}
-use Rattle.mlt_event_text.specs.Inputs.{lines_of}
-use Rattle.mlt_serve_session.specs.Texts.{said_text}
+use Rattle.mlt_serve_session.specs.{declared.said.Said.Said, Texts.said_text}
 
 -- what a line asks of the desk, with no transaction open
 abbrev pub call_alone : SessionLine → Option DeskCall

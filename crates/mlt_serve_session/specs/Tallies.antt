@@ -1,8 +1,6 @@
 -- How many of the outcomes are commits.
 use Rattle.std.specs.Prelude.{ℕ, List, sum_by}
-use Rattle.mlt_script_serial.specs.declared.outcome.End.{End}
-use Rattle.mlt_script_serial.specs.declared.outcome.End.TheVariants.{Committed, Aborted, Refused}
-use Rattle.mlt_script_serial.specs.declared.outcome.Outcome.{Outcome}
+use Rattle.mlt_script_serial.specs.declared.outcome.{End.End, End.TheVariants.Committed, End.TheVariants.Aborted, End.TheVariants.Refused, Outcome.Outcome}
 
 -- 1 for a commit, and 0 for any other end
 abbrev pub commits_by : End → ℕ

@@ -1,10 +1,8 @@
 -- The lines that a session writes.
 use Rattle.std.specs.Prelude.{ℕ, List, [], ◌∷◌, ◌++◌, codes}
-use Rattle.mlt_types.specs.declared.refusal.Refusal.{Refusal}
-use Rattle.mlt_types.specs.Refusals.{number_of, name_of}
+use Rattle.mlt_types.specs.{declared.refusal.Refusal.Refusal, Refusals.number_of, Refusals.name_of}
 use Rattle.mlt_object_kinds.specs.Texts.{with_number, reply_text}
-use Rattle.mlt_script_serial.specs.Texts.{line}
-use Rattle.mlt_script_serial.specs.declared.call.DeskAnswer.{DeskAnswer}
+use Rattle.mlt_script_serial.specs.{Texts.line, declared.call.DeskAnswer.DeskAnswer}
 use Rattle.mlt_script_serial.specs.declared.call.DeskAnswer.TheVariants.{Begun, Replied, Committed, Aborted, Refused}
 use Rattle.mlt_serve_session.specs.declared.said.Said.{Said}
 

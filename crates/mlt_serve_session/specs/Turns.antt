@@ -1,18 +1,9 @@
 -- Turns of a session, one after the other.
 use Rattle.std.specs.Prelude.{◌≡◌, ◌<◌, ◌≤◌, ◌^◌, ℕ, ◌+◌, List, [], ◌∷◌, Option, Some, None, false}
-use Rattle.mlt_script_serial.specs.declared.outcome.Outcome.{Outcome}
-use Rattle.mlt_script_serial.specs.declared.call.DeskAnswer.{DeskAnswer}
-use Rattle.mlt_script_serial.specs.declared.call.DeskCall.{DeskCall}
+use Rattle.mlt_script_serial.specs.{declared.outcome.Outcome.Outcome, declared.call.DeskAnswer.DeskAnswer, declared.call.DeskCall.DeskCall, Calls.Moves}
 use Rattle.mlt_event_text.specs.declared.session_line.SessionLine.{SessionLine}
-use Rattle.mlt_serve_session.specs.declared.said.Said.{Said}
-use Rattle.mlt_serve_session.specs.declared.notes.SessionRecord.{SessionRecord}
-use Rattle.mlt_serve_session.specs.declared.receipts.Receipts.{Ghosts}
-use Rattle.mlt_serve_session.specs.declared.notes.Progress.{Progress}
-use Rattle.mlt_serve_session.specs.Noting.{outcomes_in, noted}
-use Rattle.mlt_serve_session.specs.Outcomes.{begins_by}
+use Rattle.mlt_serve_session.specs.{declared.said.Said.Said, declared.notes.SessionRecord.SessionRecord, declared.receipts.Receipts.Ghosts, declared.notes.Progress.Progress, Noting.outcomes_in, Noting.noted, Outcomes.begins_by, Desks.Moved}
 use Rattle.mlt_serve_session.specs.Talks.{Turn, call_for, said_by, ends, is_long, open_after, commits_by}
-use Rattle.mlt_script_serial.specs.Calls.{Moves}
-use Rattle.mlt_serve_session.specs.Desks.{Moved}
 
 -- how far a session is, its desk and its outcomes
 pub record TalkState (D : Type 0) : Type 0 where

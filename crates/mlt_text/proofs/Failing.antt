@@ -1,14 +1,8 @@
 -- What fails cleanly: before the input is read, before anything is written, while it is written, and not at all.
 use Rattle.std.proofs.Common.{◌≡◌, ◌<◌, ℕ, List, length, IfSome, Result, Ok, Err, arith, inl, inr, IsErrAnd}
-use Rattle.std.specs.declared.option.Option.{Option}
-use Rattle.std.specs.Io.KnownBytes.{Keeps}
-use Rattle.std.proofs.KnownBytes.{Consumes-whole}
-use Rattle.mlt_types.specs.declared.refusal.Refusal.{Refusal}
-use Rattle.mlt_types.specs.declared.refusal.Refusal.TheVariants.{Io, OutOfMemory}
-use Rattle.mlt_text.specs.Failures.{FailsCleanly, IsWant, ReadsWithinLimit}
-use Rattle.mlt_text.specs.Inputs.{GivesWhole}
-use Rattle.mlt_text.specs.Texts.{AppendsFront}
-use Rattle.mlt_text.proofs.Pieces.{if_some_all}
+use Rattle.std.{specs.declared.option.Option.Option, specs.Io.KnownBytes.Keeps, proofs.KnownBytes.Consumes-whole}
+use Rattle.mlt_types.specs.declared.refusal.Refusal.{Refusal, TheVariants.Io, TheVariants.OutOfMemory}
+use Rattle.mlt_text.{specs.Failures.FailsCleanly, specs.Failures.IsWant, specs.Failures.ReadsWithinLimit, specs.Inputs.GivesWhole, specs.Texts.AppendsFront, proofs.Pieces.if_some_all}
 
 -- an input that was given whole is not too long
 not_long : (before after : Option (List ℕ)) (input : List ℕ) (P : Type 0) → GivesWhole before after input

@@ -1,11 +1,6 @@
 -- Reads behind held bytes, and bytes moved to the start.
 use Rattle.std.proofs.Common.{◌≡◌, ℕ, ◌+◌, ◌-◌, ◌<◌, ◌≤◌, List, ◌++◌, length, take, drop, Option, sym, ap, subst, ◌∙◌, arith, length-take, length-drop, Result, Ok, Err, IfOk}
-use Rattle.std.proofs.Math.Seq.{take-append-add, take-add, drop-append-add}
-use Rattle.std.proofs.lemmas.List.{take-append-le}
-use Rattle.std.proofs.lemmas.List.Edits.{take-paste}
-use Rattle.std.specs.List.{copy_within}
-use Rattle.std.specs.Io.{ReadsAtMost}
-use Rattle.std.specs.Io.KnownBytes.{Consumes, IsAtEnd, ReadConsumes}
+use Rattle.std.{proofs.Math.Seq.take-append-add, proofs.Math.Seq.take-add, proofs.Math.Seq.drop-append-add, proofs.lemmas.List.take-append-le, proofs.lemmas.List.Edits.take-paste, specs.List.copy_within, specs.Io.ReadsAtMost, specs.Io.KnownBytes.Consumes, specs.Io.KnownBytes.IsAtEnd, specs.Io.KnownBytes.ReadConsumes}
 
 put_prefix : (xs ys rest : List ℕ) (a n : ℕ) → length xs ≡ a → n ≤ length ys → take (a + n) (xs ++ (ys ++ rest)) ≡ xs ++ take n ys
 put_prefix xs ys rest a n l f =

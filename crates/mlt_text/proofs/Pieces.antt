@@ -1,11 +1,6 @@
 -- What reads and writes of pieces come to.
 use Rattle.std.proofs.Common.{◌≡◌, ◌≤◌, ◌<◌, ◌+◌, ◌-◌, ℕ, List, [], ◌++◌, None, Some, IfSome, sym, subst, arith, length, length-append, append-nil, take, drop, take-append-drop, OnErr, Ok, Err}
-use Rattle.std.proofs.Math.Seq.{take-add}
-use Rattle.std.proofs.lemmas.List.{take_rest}
-use Rattle.std.specs.declared.result.Result.{Result}
-use Rattle.std.specs.declared.option.Option.{Option}
-use Rattle.std.specs.Io.KnownBytes.{Appends, Consumes, IsAtEnd, Keeps}
-use Rattle.std.proofs.KnownBytes.{Appends-trans, Appends-kept, Consumes-trans, Consumes-whole}
+use Rattle.std.{proofs.Math.Seq.take-add, proofs.lemmas.List.take_rest, specs.declared.result.Result.Result, specs.declared.option.Option.Option, specs.Io.KnownBytes.Appends, specs.Io.KnownBytes.Consumes, specs.Io.KnownBytes.IsAtEnd, specs.Io.KnownBytes.Keeps, proofs.KnownBytes.Appends-trans, proofs.KnownBytes.Appends-kept, proofs.KnownBytes.Consumes-trans, proofs.KnownBytes.Consumes-whole}
 use Rattle.mlt_text.specs.Texts.{AppendsFront}
 
 pub if_some_all : (a : Option (List ℕ)) (P : List ℕ → Type 0) → ((input : List ℕ) → P input) → IfSome a P

@@ -1,13 +1,8 @@
 -- What is left of the bytes where a text is made of a whole input and then written, and something fails.
 use Rattle.std.specs.Prelude.{◌≡◌, ◌≢◌, ◌⊎◌, ◌≤◌, ◌<◌, ℕ, List, length, Option, Err, IfSome, IsErrAnd}
-use Rattle.std.specs.Io.KnownBytes.{Consumes, Keeps}
-use Rattle.std.specs.declared.result.Result.{Result}
-use Rattle.mlt_types.specs.declared.refusal.Refusal.{Refusal}
-use Rattle.mlt_types.specs.declared.refusal.Refusal.TheVariants.{Io, OutOfMemory, ScriptFault, TraceFault}
-use Rattle.mlt_types.specs.declared.refusal.ScriptCause.{ScriptCause}
-use Rattle.mlt_types.specs.declared.refusal.TraceCause.{TraceCause}
-use Rattle.mlt_text.specs.Inputs.{GivesWhole}
-use Rattle.mlt_text.specs.Texts.{AppendsFront}
+use Rattle.std.specs.{Io.KnownBytes.Consumes, Io.KnownBytes.Keeps, declared.result.Result.Result}
+use Rattle.mlt_types.specs.declared.refusal.{Refusal.Refusal, Refusal.TheVariants.Io, Refusal.TheVariants.OutOfMemory, Refusal.TheVariants.ScriptFault, Refusal.TheVariants.TraceFault, ScriptCause.ScriptCause, TraceCause.TraceCause}
+use Rattle.mlt_text.specs.{Inputs.GivesWhole, Texts.AppendsFront}
 
 -- the refusal says nothing of the input: memory ran out, or a read or a write failed
 abbrev pub IsWant : Refusal → Type 0

@@ -1,8 +1,7 @@
 -- The first line of a text.
 use Rattle.std.proofs.Common.{◌≡◌, ℕ, suc, zero, ◌+◌, ◌-◌, ◌<◌, ◌≤◌, List, [], ◌∷◌, ◌++◌, length, take, drop, get_or, Bool, true, false, cond, ltb, Some, None, refl, ap, ◌∙◌, arith, position, take_all, length-drop, ltb-false}
 use Rattle.mlt_text_words.proofs.Names.{list_all, position_or_len, fails_before_first, position-Some, is_printable, is_lf, is_allowed}
-use Rattle.mlt_text_words.specs.Lines.{lines, onto, is_unprintable}
-use Rattle.mlt_text_words.proofs.Pieces.{first_and}
+use Rattle.mlt_text_words.{specs.Lines.lines, specs.Lines.onto, specs.Lines.is_unprintable, proofs.Pieces.first_and}
 
 pub no_lines : (rest : List ℕ) → length rest ≡ 0 → lines rest ≡ []
 unfolding lines

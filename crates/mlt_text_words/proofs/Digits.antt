@@ -1,12 +1,8 @@
 -- A number at the front of a text, read digit by digit.
 use Rattle.std.proofs.Common.{◌≡◌, ℕ, suc, zero, ◌+◌, ◌-◌, ◌*◌, ◌^◌, ◌<◌, ◌≤◌, List, [], ◌∷◌, ◌++◌, length, take, drop, get_or, map, true, Some, refl, sym, ap, subst, ◌∙◌, append_assoc, arith, position, append-nil, lt-ltb, le-leb}
 use Rattle.mlt_text_words.proofs.Names.{list_all, digits_value, digit_value, Word, Number, is_digit, word_at, word_if, raw_words, is_black}
-use Rattle.std.proofs.lemmas.List.Folds.{list_all_more}
-use Rattle.std.proofs.lemmas.Int.Digits.{digits_value_more}
-use Rattle.mlt_text_words.specs.Numbers.{number_of}
-use Rattle.mlt_text_words.specs.Words.{word_of, words_from, words_of, is_over}
-use Rattle.mlt_text_words.proofs.Numerals.{digit_is}
-use Rattle.mlt_text_words.proofs.Pieces.{first_and, digit_no_blank, word_is_number}
+use Rattle.std.proofs.lemmas.{List.Folds.list_all_more, Int.Digits.digits_value_more}
+use Rattle.mlt_text_words.{specs.Numbers.number_of, specs.Words.word_of, specs.Words.words_from, specs.Words.words_of, specs.Words.is_over, proofs.Numerals.digit_is, proofs.Pieces.first_and, proofs.Pieces.digit_no_blank, proofs.Pieces.word_is_number}
 use Rattle.mlt_text_words.proofs.Splitting.{at_blank, at_other, at_word, is_word, to_the_end}
 
 -- digits of a word, up to its end

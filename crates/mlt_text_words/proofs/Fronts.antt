@@ -1,16 +1,10 @@
 -- Digits at the front of a text.
 use Rattle.std.proofs.Common.{◌≡◌, ℕ, suc, zero, ◌+◌, ◌-◌, ◌^◌, ◌<◌, ◌≤◌, List, [], ◌∷◌, ◌++◌, length, take, drop, map, Bool, true, false, cond, not, Some, None, refl, sym, ap, subst, ◌∙◌, append_assoc, arith, position, bytes_eq, ltb-false, take-append-drop, take_all}
 use Rattle.mlt_text_words.proofs.Names.{list_all, position_or_len, digit_value, digits_value, bytes_eq-Decides, Keyword, Word, Number, is_comment, is_digit, all_keywords, spelled_among, spelling}
-use Rattle.std.specs.List.{prefix_len}
-use Rattle.std.specs.Str.Parse.{AllDigits}
-use Rattle.std.proofs.Math.Nat.{pow-le-pow_right}
-use Rattle.std.proofs.lemmas.Int.Digits.{digits_value-lt}
+use Rattle.std.{specs.List.prefix_len, specs.Str.Parse.AllDigits, proofs.Math.Nat.pow-le-pow_right, proofs.lemmas.Int.Digits.digits_value-lt}
 use Rattle.mlt_text_words.specs.Fronts.{BeginsWithNumber, BeginsWithWords, begins_with_digit, front_letters, is_letter, is_no_letter}
-use Rattle.mlt_text_words.specs.Numbers.{number_of}
-use Rattle.mlt_text_words.specs.Words.{keyword_of, word_of, words_of}
-use Rattle.mlt_text_words.proofs.Digits.{writes, taken}
+use Rattle.mlt_text_words.{specs.Numbers.number_of, specs.Words.keyword_of, specs.Words.word_of, specs.Words.words_of, proofs.Digits.writes, proofs.Digits.taken, proofs.Splitting.none_found, proofs.Splitting.to_the_end}
 use Rattle.mlt_text_words.proofs.Pieces.{beside, digits_printable, digits_word, first_and, word_alone, word_is_number}
-use Rattle.mlt_text_words.proofs.Splitting.{none_found, to_the_end}
 
 digit_below : (b : ℕ) → is_digit b ≡ true → digit_value b < 10
 digit_below b h = grind arith

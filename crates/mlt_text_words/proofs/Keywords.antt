@@ -1,8 +1,7 @@
 -- Each keyword is found by its ends.
 use Rattle.std.proofs.Common.{◌≡◌, ℕ, ◌-◌, List, [], ◌∷◌, length, get_or, find, true, false, Option, Some, None, refl, sym, ap, ◌∙◌, arith, bytes_eq}
 use Rattle.mlt_text_words.proofs.Names.{bytes_eq-Decides, Keyword, all_keywords, spelled_among, spelling}
-use Rattle.mlt_text_words.specs.Words.{has_ends, keyword_of}
-use Rattle.mlt_text_words.proofs.Fronts.{spelled_so}
+use Rattle.mlt_text_words.{specs.Words.has_ends, specs.Words.keyword_of, proofs.Fronts.spelled_so}
 
 -- the first keyword with the ends of a word
 abbrev pub alike : List ℕ → Option Keyword

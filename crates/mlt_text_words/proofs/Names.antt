@@ -1,15 +1,3 @@
 -- Names of other crates, of std and of specs/ that two files of these proofs or more import. Declares nothing.
-pub use Rattle.mlt_text_words.specs.Fronts.{is_printable}
-pub use Rattle.mlt_text_words.specs.Lines.{is_allowed, is_comment, is_lf}
-pub use Rattle.mlt_text_words.specs.Numbers.{is_digit}
-pub use Rattle.mlt_text_words.specs.Words.{all_keywords, first_word, is_black, is_blank, raw_words, spelled_among, spelling, word_at, word_if}
-pub use Rattle.mlt_text_words.specs.declared.keyword.Keyword.{Keyword}
-pub use Rattle.mlt_text_words.specs.declared.keyword.Word.{Word}
-pub use Rattle.mlt_text_words.specs.declared.keyword.Word.TheVariants.{Number}
-pub use Rattle.mlt_text_words.specs.declared.letter.Letter.{Letter}
-pub use Rattle.std.proofs.lemmas.List.Quantifiers.{position-Some}
-pub use Rattle.std.proofs.lemmas.List.Sums.{fails_before_first}
-pub use Rattle.std.proofs.lemmas.Slice.Eq.{bytes_eq-Decides}
-pub use Rattle.std.specs.Char.{digit_value}
-pub use Rattle.std.specs.List.{list_all, position_or_len}
-pub use Rattle.std.specs.Str.Parse.{digits_value}
+pub use Rattle.mlt_text_words.specs.{Fronts.is_printable, Lines.is_allowed, Lines.is_comment, Lines.is_lf, Numbers.is_digit, Words.all_keywords, Words.first_word, Words.is_black, Words.is_blank, Words.raw_words, Words.spelled_among, Words.spelling, Words.word_at, Words.word_if, declared.keyword.Keyword.Keyword, declared.keyword.Word.Word, declared.keyword.Word.TheVariants.Number, declared.letter.Letter.Letter}
+pub use Rattle.std.{proofs.lemmas.List.Quantifiers.position-Some, proofs.lemmas.List.Sums.fails_before_first, proofs.lemmas.Slice.Eq.bytes_eq-Decides, specs.Char.digit_value, specs.List.list_all, specs.List.position_or_len, specs.Str.Parse.digits_value}

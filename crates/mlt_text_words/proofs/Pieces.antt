@@ -1,14 +1,9 @@
 -- Words of printed lines, read back.
 use Rattle.std.proofs.Common.{◌≡◌, ℕ, ◌+◌, ◌%◌, ◌^◌, ◌<◌, ◌≤◌, List, [], ◌∷◌, ◌++◌, length, map, leb, ◌==◌, ◌&&◌, Bool, true, false, cond, Some, None, codes, refl, sym, ap, ◌∙◌, append_assoc, length-append, arith, decimal, bytes_eq, append-nil, lt-ltb, le-leb}
 use Rattle.mlt_text_words.proofs.Names.{list_all, Keyword, Word, Number, Letter, is_printable, is_digit, spelling, spelled_among, word_if, raw_words, is_blank, all_keywords}
-use Rattle.std.proofs.lemmas.List.{map-append}
-use Rattle.std.proofs.lemmas.Fmt.{decimal_by_steps, decimal_is_IsNumeral, decimal_nonempty, length-decimal-le}
-use Rattle.mlt_text_words.specs.declared.keyword.Word.TheVariants.{Key, Variable}
-use Rattle.mlt_text_words.specs.Letters.{byte_of, letter_of}
-use Rattle.mlt_text_words.specs.Fronts.{TextIs}
-use Rattle.mlt_text_words.specs.Numbers.{number_of}
+use Rattle.std.proofs.lemmas.{List.map-append, Fmt.decimal_by_steps, Fmt.decimal_is_IsNumeral, Fmt.decimal_nonempty, Fmt.length-decimal-le}
+use Rattle.mlt_text_words.{specs.declared.keyword.Word.TheVariants.Key, specs.declared.keyword.Word.TheVariants.Variable, specs.Letters.byte_of, specs.Letters.letter_of, specs.Fronts.TextIs, specs.Numbers.number_of, proofs.Splitting.at_other}
 use Rattle.mlt_text_words.specs.Words.{keyword_of, letter_word, word_of, words_from, words_of}
-use Rattle.mlt_text_words.proofs.Splitting.{at_other}
 
 both : (c : Bool) (w p q r s t : List (List ℕ)) → p ≡ q ++ t → r ≡ s ++ t → cond c (w ++ p) r ≡ cond c (w ++ q) s ++ t
 both true w p q r s t e f = ap (λ (x : List (List ℕ)). w ++ x) e ∙ sym (append_assoc w q t)

@@ -1,9 +1,7 @@
 -- What stands at the front of a text.
 use Rattle.std.specs.Prelude.{◌≡◌, ◌<◌, ◌≤◌, ℕ, List, [], ◌∷◌, ◌++◌, length, nat_le, not, take_while, Some, Bool, true, false, ◌&&◌}
 use Rattle.std.specs.List.{list_all}
-use Rattle.mlt_text_words.specs.declared.keyword.Word.{Word}
-use Rattle.mlt_text_words.specs.Numbers.{is_digit, number_of}
-use Rattle.mlt_text_words.specs.Words.{words_of}
+use Rattle.mlt_text_words.specs.{declared.keyword.Word.Word, Numbers.is_digit, Numbers.number_of, Words.words_of}
 
 -- 0x20 to 0x7E
 abbrev pub is_printable : ℕ → Bool

@@ -1,10 +1,6 @@
 -- The words of a line.
 use Rattle.std.specs.Prelude.{ℕ, ◌-◌, List, [], ◌∷◌, ◌++◌, map, Option, Some, None, option_and_then, ◌==◌, Bool, true, ◌&&◌, ◌||◌, not, length, slice_index, if◌then◌else◌, codes, bytes_eq}
-use Rattle.mlt_text_words.specs.declared.keyword.Keyword.{Keyword}
-use Rattle.mlt_text_words.specs.declared.keyword.Word.{Word}
-use Rattle.mlt_text_words.specs.declared.letter.Letter.{Letter}
-use Rattle.mlt_text_words.specs.Letters.{letter_of}
-use Rattle.mlt_text_words.specs.Numbers.{number_of}
+use Rattle.mlt_text_words.specs.{declared.keyword.Keyword.Keyword, declared.keyword.Word.Word, declared.letter.Letter.Letter, Letters.letter_of, Numbers.number_of}
 
 -- how a keyword is written
 abbrev pub spelling : Keyword → List ℕ

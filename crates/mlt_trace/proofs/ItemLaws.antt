@@ -1,11 +1,9 @@
 -- What one more item makes of the entries and numbers of a history.
 use Rattle.std.proofs.Common.{◌≡◌, ℕ, ◌+◌, List, [], ◌∷◌, ◌++◌, length, refl, sym, subst, ap, ◌∙◌, arith, length-append}
-use Rattle.mlt_object_kinds.specs.declared.operation.ObjOp.{ObjOp}
-use Rattle.mlt_object_kinds.specs.declared.operation.ObjReply.{ObjReply}
+use Rattle.mlt_object_kinds.specs.declared.operation.{ObjOp.ObjOp, ObjReply.ObjReply}
 use Rattle.mlt_trace.proofs.Names.{Entry, TraceItem, Begin, Op, Back, Commit, Abort, entries_of, CountsFrom, begun_txs}
 use Rattle.mlt_order.specs.Histories.{Lists, no_lists, after_entry, after_entries, lists_of}
-use Rattle.mlt_trace.specs.Entries.{entry_of}
-use Rattle.mlt_trace.specs.Numbers.{committed_txs, commit_numbers, begin_count, commit_count}
+use Rattle.mlt_trace.specs.{Entries.entry_of, Numbers.committed_txs, Numbers.commit_numbers, Numbers.begin_count, Numbers.commit_count}
 
 pub entries_of-append : (items later : List TraceItem) → entries_of (items ++ later) ≡ entries_of items ++ entries_of later
 entries_of-append [] later = refl

@@ -1,7 +1,6 @@
 -- One more line
 use Rattle.std.proofs.Common.{◌≡◌, ◌<◌, ◌∙◌, ◌++◌, ◌∷◌, [], ℕ, List, ap, refl, sym, append-nil, append_assoc}
-use Rattle.mlt_trace.specs.declared.item.TraceItem.{TraceItem}
-use Rattle.mlt_trace.specs.Lines.{AreLinesOf, spaced_line}
+use Rattle.mlt_trace.specs.{declared.item.TraceItem.TraceItem, Lines.AreLinesOf, Lines.spaced_line}
 
 -- the line of one more item comes behind the others
 pub lines_longer : (items : List TraceItem) (text : List ℕ) (item : TraceItem) (spaces : ℕ) → spaces < 96 → (new : List ℕ) → AreLinesOf items text → new ≡ text ++ spaced_line item spaces

@@ -1,8 +1,6 @@
 -- What a writer has of a text whose next bytes stand in a piece.
 use Rattle.std.proofs.Common.{◌≡◌, ◌∙◌, ◌++◌, ℕ, List, [], sym, ap, subst, append-nil, append_assoc}
-use Rattle.std.specs.declared.option.Option.{Option}
-use Rattle.std.specs.Io.KnownBytes.{Appends}
-use Rattle.std.proofs.KnownBytes.{Appends-trans}
+use Rattle.std.{specs.declared.option.Option.Option, specs.Io.KnownBytes.Appends, proofs.KnownBytes.Appends-trans}
 use Rattle.mlt_text.specs.Texts.{AppendsFront}
 
 -- the writer got a front of the text, which goes on with the piece, and then with the rest

@@ -1,13 +1,8 @@
 -- The total of the rooms of a table, as its entries come, change and go.
 use Rattle.std.proofs.Common.{◌≡◌, ℕ, ◌+◌, ◌≤◌, cond, map, List, [], ◌∷◌, Some, None, is_some, sym, ap, ◌∙◌, arith, sum_by, nat_cmp, is_eq}
 use Rattle.mlt_trace.proofs.Names.{cases_eq}
-use Rattle.std.proofs.lemmas.Bool.{false≢true}
-use Rattle.std.proofs.lemmas.List.{nil_from_length}
-use Rattle.std.proofs.lemmas.List.Sums.{sum_by_from}
-use Rattle.std.specs.declared.cmp.Ordering.TheVariants.{Less, Equal, Greater}
-use Rattle.std.specs.Cmp.{nat_cmp_total, unsigned_tied}
+use Rattle.std.{proofs.lemmas.Bool.false≢true, proofs.lemmas.List.nil_from_length, proofs.lemmas.List.Sums.sum_by_from, specs.declared.cmp.Ordering.TheVariants.Less, specs.declared.cmp.Ordering.TheVariants.Equal, specs.declared.cmp.Ordering.TheVariants.Greater, specs.Cmp.nat_cmp_total, specs.Cmp.unsigned_tied, specs.FinMap.Entries.by_order, specs.FinMap.Entries.find, specs.FinMap.Entries.put}
 use Rattle.std.specs.FinMap as table
-use Rattle.std.specs.FinMap.Entries.{by_order, find, put}
 use Rattle.mlt_trace.specs.Rooms.{total_room}
 
 module _ {X : Type 0} (room_of : X → ℕ) where

@@ -1,7 +1,6 @@
 -- The entry of an item, in a history of operations with their replies.
 use Rattle.std.specs.Prelude.{List, [], ◌∷◌}
-use Rattle.mlt_object_kinds.specs.declared.operation.ObjOp.{ObjOp}
-use Rattle.mlt_object_kinds.specs.declared.operation.ObjReply.{ObjReply}
+use Rattle.mlt_object_kinds.specs.declared.operation.{ObjOp.ObjOp, ObjReply.ObjReply}
 use Rattle.mlt_order.specs.Histories.{Entry}
 use Rattle.mlt_order.specs.Histories.Entry.{Begun, Did, TookBack, Committed, Closed}
 use Rattle.mlt_trace.specs.declared.item.TraceItem.{TraceItem}

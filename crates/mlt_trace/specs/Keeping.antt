@@ -1,8 +1,7 @@
 -- Items as a history keeps them.
 use Rattle.std.specs.Prelude.{ℕ}
 use Rattle.mlt_object_kinds.specs.Packing.{op_of, reply_of}
-use Rattle.mlt_trace.specs.declared.item.TraceItem.{TraceItem}
-use Rattle.mlt_trace.specs.declared.kept.PackedForm.{PackedForm}
+use Rattle.mlt_trace.specs.declared.{item.TraceItem.TraceItem, kept.PackedForm.PackedForm}
 use Rattle.mlt_trace.specs.declared.kept.PackedForm.TheVariants.{Begin, Op, OfSet, Back, Commit, Abort}
 
 -- the item of a transaction that is kept in this form

@@ -1,9 +1,7 @@
 -- Lines of a trace, with spaces before their ends, that keep to the blocks of a file
 use Rattle.std.specs.Prelude.{ℕ, ◌≡◌, ◌<◌, ◌≤◌, ◌⊎◌, ◌+◌, ◌-◌, ◌%◌, List, [], ◌∷◌, ◌++◌, length, replicate}
-use Rattle.std.specs.Io.KnownBytes.{Appends}
-use Rattle.std.specs.declared.option.Option.{Option}
-use Rattle.mlt_trace.specs.declared.item.TraceItem.{TraceItem}
-use Rattle.mlt_trace.specs.Items.{item_text}
+use Rattle.std.specs.{Io.KnownBytes.Appends, declared.option.Option.Option}
+use Rattle.mlt_trace.specs.{declared.item.TraceItem.TraceItem, Items.item_text}
 
 -- the line of an item, with so many spaces before its end
 abbrev pub spaced_line : TraceItem → ℕ → List ℕ

@@ -1,7 +1,6 @@
 -- The numbers that stand in the items of a history.
 use Rattle.std.specs.Prelude.{◌≡◌, ℕ, ◌+◌, List, [], ◌∷◌, length}
-use Rattle.mlt_trace.specs.declared.item.TraceItem.{TraceItem}
-use Rattle.mlt_trace.specs.declared.item.TraceItem.TheVariants.{Begin, Commit}
+use Rattle.mlt_trace.specs.declared.item.TraceItem.{TraceItem, TheVariants.Begin, TheVariants.Commit}
 
 -- the numbers are this one, the next one, and so on
 abbrev pub CountsFrom : ℕ → List ℕ → Type 0

@@ -2,8 +2,7 @@
 use Rattle.std.proofs.Common.{◌≡◌, ℕ, ◌+◌, ◌-◌, ◌<◌, ◌≤◌, List, length, get_or, Some, slice_get, sym, ap, subst, ◌∙◌, inl, inr, arith}
 use Rattle.mlt_trace_audit.proofs.Names.{cases_lt, slice_get-get_or, Committed, Outcome, RisesTo}
 use Rattle.std.proofs.lemmas.Bool.{cases_order}
-use Rattle.mlt_trace_audit.specs.Agreement.{CommitsRise}
-use Rattle.mlt_trace_audit.specs.Orders.{AreInOrder, IsCommitted, Precedes}
+use Rattle.mlt_trace_audit.specs.{Agreement.CommitsRise, Orders.AreInOrder, Orders.IsCommitted, Orders.Precedes}
 
 abbrev pub IsAt : List Outcome → ℕ → Outcome → Type 0
 IsAt outcomes k o = slice_get outcomes k ≡ Some o

@@ -3,20 +3,12 @@ use Rattle.std.proofs.Common.{◌≡◌, ◌≢◌, ◌⊎◌, ℕ, zero, suc, �
 use Rattle.mlt_trace_audit.proofs.Names.{cases_eq, All-contains, Contains-append_left, sum_by-cons, ObjOp, ObjReply, Lists, Stage, Running, Ended, contains-first, contains-later, contains-nothing, changed, TraceItem, Begin, Op, Back, Commit, Abort, AreBegunInOrder, begun_txs, ArePlaced, HasPlace, IsRunning, told, begun_stays, earlier_or_last, number_in, stage-other, told-push, runs_begun, End, Committed, Outcome, count_of, Closing, IsClosedSo, IsOfHistory, closing_by, closings_of, ops_of, ByAbort, ByCommit}
 use Rattle.std.proofs.lemmas.List.{map-append}
 use Rattle.mlt_object_kinds.specs.Bases.{Base, Step, empty_base}
-use Rattle.mlt_order.specs.Histories.Stage.{Fresh}
-use Rattle.mlt_order.specs.Runs.{IsSerialBase}
-use Rattle.mlt_order.proofs.Growing.{one_last}
-use Rattle.mlt_trace.specs.Numbers.{commit_count, commit_numbers}
-use Rattle.mlt_trace.proofs.ItemLaws.{commits_counted, no_commit}
-use Rattle.mlt_trace_check.specs.Traces.{IsWhole}
-use Rattle.mlt_trace_check.proofs.Growing.{append_nil, last_one, transcript-other}
-use Rattle.mlt_trace_check.proofs.Lasting.{one_more}
-use Rattle.mlt_trace_check.proofs.Standing.{was_whole}
+use Rattle.mlt_order.{specs.Histories.Stage.Fresh, specs.Runs.IsSerialBase, proofs.Growing.one_last}
+use Rattle.mlt_trace.{specs.Numbers.commit_count, specs.Numbers.commit_numbers, proofs.ItemLaws.commits_counted, proofs.ItemLaws.no_commit}
+use Rattle.mlt_trace_check.{specs.Traces.IsWhole, proofs.Growing.append_nil, proofs.Growing.last_one, proofs.Growing.transcript-other, proofs.Lasting.one_more, proofs.Standing.was_whole}
 use Rattle.mlt_script_serial.specs.declared.outcome.End.TheVariants.{Aborted, Refused}
-use Rattle.mlt_trace_audit.specs.Agreement.{Agrees}
-use Rattle.mlt_trace_audit.specs.Committed.{AreCommittedOf, CommitFrom, IsBaseOfOutcomes, transcripts_of}
+use Rattle.mlt_trace_audit.specs.{Agreement.Agrees, Committed.AreCommittedOf, Committed.CommitFrom, Committed.IsBaseOfOutcomes, Committed.transcripts_of, Outcomes.IsWithoutTx}
 use Rattle.mlt_trace_audit.proofs.Placed.{behind_commit, begun_in, closings_abort, closings_commit, closings_of-append, closings_other, ops_of-append, ops_other, ops_own, stage_at}
-use Rattle.mlt_trace_audit.specs.Outcomes.{IsWithoutTx}
 
 -- ---- one more item
 

@@ -2,9 +2,7 @@
 use Rattle.std.proofs.Common.{◌≡◌, ◌≢◌, ◌↔◌, ℕ, ◌+◌, ◌-◌, ◌<◌, ◌≤◌, List, [], All, length, get_or, set, take, replicate, Bool, true, false, cond, refl, sym, ap, ◌∙◌, inl, inr, arith, ◌==◌, eq-eqb, ne_eqb, get_or-set_other, get_or-set_same, length-set, take_all}
 use Rattle.std.specs.Prelude.{IsTrue}
 use Rattle.mlt_trace_audit.proofs.Names.{cases_eq, sum_by-take-le, Outcome, count_of}
-use Rattle.std.proofs.lemmas.List.{get_or-replicate}
-use Rattle.std.proofs.lemmas.List.Elements.{All-get_or, All-from_get_or}
-use Rattle.std.proofs.lemmas.List.Sums.{count_by_more_no, count_by_more_yes}
+use Rattle.std.proofs.lemmas.List.{get_or-replicate, Elements.All-get_or, Elements.All-from_get_or, Sums.count_by_more_no, Sums.count_by_more_yes}
 
 -- the numbers that stand in outcomes are marked, and none stands in two
 abbrev pub IsMarked : List Bool → List Outcome → Type 0

@@ -1,27 +1,8 @@
 -- Names of other crates, of std and of specs/ that two files of these proofs or more import. Declares nothing.
-pub use Rattle.mlt_object_kinds.specs.Packing.{parts_of}
-pub use Rattle.mlt_object_kinds.specs.declared.operation.ObjOp.{ObjOp}
-pub use Rattle.mlt_object_kinds.specs.declared.operation.ObjReply.{ObjReply}
-pub use Rattle.mlt_order.proofs.RunLemmas.{contains-first, contains-later, contains-nothing}
-pub use Rattle.mlt_order.proofs.Tables.{changed}
-pub use Rattle.mlt_order.specs.Histories.{Lists, Stage}
-pub use Rattle.mlt_order.specs.Histories.Stage.{Ended, Running}
-pub use Rattle.mlt_script_serial.specs.declared.outcome.End.{End}
-pub use Rattle.mlt_script_serial.specs.declared.outcome.End.TheVariants.{Committed}
-pub use Rattle.mlt_script_serial.specs.declared.outcome.Outcome.{Outcome}
-pub use Rattle.mlt_trace.proofs.ItemLaws.{begins_counted, begun_txs-append, no_begin}
-pub use Rattle.mlt_trace.specs.Numbers.{AreBegunInOrder, CountsFrom, begin_count, begun_txs}
-pub use Rattle.mlt_trace.specs.declared.item.TraceItem.{TraceItem}
-pub use Rattle.mlt_trace.specs.declared.item.TraceItem.TheVariants.{Abort, Back, Begin, Commit, Op}
-pub use Rattle.mlt_trace_audit.specs.Agreement.{IsOnce, NumbersAgree, count_of}
-pub use Rattle.mlt_trace_audit.specs.Ordered.{AreOrdered, StandsBehind, is_told, told_count, tx_of}
-pub use Rattle.mlt_trace_audit.specs.Outcomes.{Closing, HasNothing, IsClosedBefore, IsClosedSo, IsOfHistory, RisesTo, closing_by, closings_of, ops_of}
-pub use Rattle.mlt_trace_audit.specs.Outcomes.Closing.{ByAbort, ByCommit}
-pub use Rattle.mlt_trace_check.proofs.Growing.{begun_stays, earlier_or_last, number_in, stage-other, told-push}
-pub use Rattle.mlt_trace_check.proofs.Lasting.{runs_begun}
-pub use Rattle.mlt_trace_check.specs.Traces.{ArePlaced, HasPlace, IsRunning, told}
-pub use Rattle.std.proofs.lemmas.Bool.{cases_eq, cases_lt}
-pub use Rattle.std.proofs.lemmas.List.{take_more}
-pub use Rattle.std.proofs.lemmas.List.Elements.{All-contains, Contains-append_left}
-pub use Rattle.std.proofs.lemmas.List.Sums.{sum_by-cons, sum_by-take-le}
-pub use Rattle.std.proofs.lemmas.Option.{slice_get-get_or, slice_get_within}
+pub use Rattle.mlt_object_kinds.specs.{Packing.parts_of, declared.operation.ObjOp.ObjOp, declared.operation.ObjReply.ObjReply}
+pub use Rattle.mlt_order.{proofs.RunLemmas.contains-first, proofs.RunLemmas.contains-later, proofs.RunLemmas.contains-nothing, proofs.Tables.changed, specs.Histories.Lists, specs.Histories.Stage, specs.Histories.Stage.Ended, specs.Histories.Stage.Running}
+pub use Rattle.mlt_script_serial.specs.declared.outcome.{End.End, End.TheVariants.Committed, Outcome.Outcome}
+pub use Rattle.mlt_trace.{proofs.ItemLaws.begins_counted, proofs.ItemLaws.begun_txs-append, proofs.ItemLaws.no_begin, specs.Numbers.AreBegunInOrder, specs.Numbers.CountsFrom, specs.Numbers.begin_count, specs.Numbers.begun_txs, specs.declared.item.TraceItem.TraceItem, specs.declared.item.TraceItem.TheVariants.Abort, specs.declared.item.TraceItem.TheVariants.Back, specs.declared.item.TraceItem.TheVariants.Begin, specs.declared.item.TraceItem.TheVariants.Commit, specs.declared.item.TraceItem.TheVariants.Op}
+pub use Rattle.mlt_trace_audit.specs.{Agreement.IsOnce, Agreement.NumbersAgree, Agreement.count_of, Ordered.AreOrdered, Ordered.StandsBehind, Ordered.is_told, Ordered.told_count, Ordered.tx_of, Outcomes.Closing, Outcomes.HasNothing, Outcomes.IsClosedBefore, Outcomes.IsClosedSo, Outcomes.IsOfHistory, Outcomes.RisesTo, Outcomes.closing_by, Outcomes.closings_of, Outcomes.ops_of, Outcomes.Closing.ByAbort, Outcomes.Closing.ByCommit}
+pub use Rattle.mlt_trace_check.{proofs.Growing.begun_stays, proofs.Growing.earlier_or_last, proofs.Growing.number_in, proofs.Growing.stage-other, proofs.Growing.told-push, proofs.Lasting.runs_begun, specs.Traces.ArePlaced, specs.Traces.HasPlace, specs.Traces.IsRunning, specs.Traces.told}
+pub use Rattle.std.proofs.lemmas.{Bool.cases_eq, Bool.cases_lt, List.take_more, List.Elements.All-contains, List.Elements.Contains-append_left, List.Sums.sum_by-cons, List.Sums.sum_by-take-le, Option.slice_get-get_or, Option.slice_get_within}

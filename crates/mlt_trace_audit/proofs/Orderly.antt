@@ -2,11 +2,8 @@
 use Rattle.std.proofs.Common.{◌≡◌, ◌⊎◌, ℕ, zero, suc, ◌+◌, ◌<◌, ◌≤◌, List, [], ◌∷◌, ◌++◌, true, length, get_or, take, Some, slice_get, refl, sym, ap, subst, ◌∙◌, inl, inr, arith, length-append, take_all}
 use Rattle.mlt_trace_audit.proofs.Names.{cases_lt, take_more, slice_get-get_or, slice_get_within, TraceItem, Begin, Op, Back, Commit, Abort, AreBegunInOrder, CountsFrom, begin_count, begun_txs, begun_txs-append, no_begin, AreOrdered, StandsBehind, is_told, tx_of, HasNothing}
 use Rattle.mlt_trace.proofs.ItemLaws.{begin_keeps_order}
-use Rattle.mlt_trace_audit.proofs.Apart.{IsApart, nothing_none, nothing_push}
-use Rattle.std.proofs.Math.ListN.{get_or-append}
-use Rattle.std.proofs.lemmas.List.{get_or_push}
-use Rattle.std.proofs.lemmas.Option.{get_or_from_slice_get}
-use Rattle.mlt_trace_audit.specs.Ordered.{AreBeginsAt}
+use Rattle.mlt_trace_audit.{proofs.Apart.IsApart, proofs.Apart.nothing_none, proofs.Apart.nothing_push, specs.Ordered.AreBeginsAt}
+use Rattle.std.proofs.{Math.ListN.get_or-append, lemmas.List.get_or_push, lemmas.Option.get_or_from_slice_get}
 
 -- the items before a place are in order
 abbrev pub AreOrderedTo : List TraceItem → ℕ → Type 0

@@ -1,12 +1,8 @@
 -- Operations with their replies are the same where their parts are.
 use Rattle.std.proofs.Common.{◌≡◌, refl, sym, ap, ◌∙◌}
 use Rattle.mlt_object_kinds.specs.declared.account.AccountOp.TheVariants.{Open, Close, Deposit, Withdraw, Balance}
-use Rattle.mlt_object_kinds.specs.declared.counter.CounterOp.TheVariants.{Up, Down, Read}
-use Rattle.mlt_object_kinds.specs.declared.element.ElementOp.TheVariants.{Add, Remove, Has}
+use Rattle.mlt_object_kinds.specs.{declared.counter.CounterOp.TheVariants.Up, declared.counter.CounterOp.TheVariants.Down, declared.counter.CounterOp.TheVariants.Read, declared.element.ElementOp.TheVariants.Add, declared.element.ElementOp.TheVariants.Remove, declared.element.ElementOp.TheVariants.Has, declared.operation.ObjOp.TheVariants.Account, declared.operation.ObjOp.TheVariants.Element, declared.operation.ObjOp.TheVariants.Counter, declared.operation.ObjOp.TheVariants.Size, declared.operation.ObjReply.TheVariants.Opened, Packing.op_in, Packing.reply_in}
 use Rattle.mlt_trace_audit.proofs.Names.{ObjOp, ObjReply, parts_of}
-use Rattle.mlt_object_kinds.specs.declared.operation.ObjOp.TheVariants.{Account, Element, Counter, Size}
-use Rattle.mlt_object_kinds.specs.declared.operation.ObjReply.TheVariants.{Opened}
-use Rattle.mlt_object_kinds.specs.Packing.{op_in, reply_in}
 
 op_of_parts : (op : ObjOp) (reply : ObjReply) → op_in (parts_of op reply) ≡ op
 op_of_parts (Account number Open) reply = refl

@@ -2,8 +2,7 @@
 use Rattle.std.proofs.Common.{◌≡◌, ◌≢◌, ℕ, zero, suc, ◌+◌, ◌<◌, ◌≤◌, List, [], ◌∷◌, ◌++◌, Bool, true, false, cond, length, get_or, take, drop, All, Contains, refl, sym, ap, subst, ◌∙◌, inl, inr, arith, ◌==◌, sum_by, eq-eqb, ne_eqb, length-append, take-append-drop, take_all}
 use Rattle.mlt_trace_audit.proofs.Names.{cases_eq, take_more, All-contains, sum_by-cons, contains-first, contains-later, TraceItem, Begin, Op, Back, Commit, Abort, begin_count, Outcome, NumbersAgree, count_of, AreOrdered, is_told, told_count, tx_of, HasNothing, IsClosedBefore, IsOfHistory, closings_of, ops_of}
 use Rattle.std.proofs.lemmas.List.Sums.{sum_by_push}
-use Rattle.mlt_trace_audit.proofs.Apart.{closed_whole, same_past}
-use Rattle.mlt_trace_audit.proofs.Counts.{is_begun}
+use Rattle.mlt_trace_audit.proofs.{Apart.closed_whole, Apart.same_past, Counts.is_begun}
 use Rattle.mlt_trace_audit.proofs.Orderly.{begun_in_order_to, front_more, item_at, nothing_of_zero, told_of_begun}
 use Rattle.mlt_trace_audit.proofs.Placed.{begun_in, closings_abort, closings_commit, closings_of-append, ops_of-append, ops_own}
 

@@ -2,8 +2,7 @@
 use Rattle.std.proofs.Common.{◌≡◌, ℕ, ◌+◌, ◌<◌, ◌≤◌, List, [], ◌∷◌, ◌++◌, Bool, true, false, cond, length, get_or, take, drop, refl, sym, ap, ◌∙◌, append_assoc, arith, get_or-drop, length-append, length-drop, length-take, take-append-drop, take_all}
 use Rattle.mlt_trace_audit.proofs.Names.{take_more, ObjOp, ObjReply, TraceItem, Op, Commit, Abort, End, Closing, IsClosedBefore, IsClosedSo, closing_by, closings_of, ops_of, ByAbort, ByCommit}
 use Rattle.std.proofs.lemmas.List.{append_cancel_left, drop_more}
-use Rattle.mlt_trace_audit.proofs.Apart.{Dones, IsApart, same_past}
-use Rattle.mlt_trace_audit.proofs.Placed.{closings_abort, closings_commit, ops_own}
+use Rattle.mlt_trace_audit.proofs.{Apart.Dones, Apart.IsApart, Apart.same_past, Placed.closings_abort, Placed.closings_commit, Placed.ops_own}
 
 -- the close, if it was met
 abbrev pub met : End → Bool → List Closing

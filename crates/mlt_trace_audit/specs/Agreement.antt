@@ -1,7 +1,6 @@
 -- Outcomes that agree with a history.
 use Rattle.std.specs.Prelude.{◌≡◌, ◌≢◌, ℕ, List, ◌==◌, All, Contains, count_by}
-use Rattle.mlt_trace.specs.declared.item.TraceItem.{TraceItem}
-use Rattle.mlt_trace.specs.Numbers.{begun_txs}
+use Rattle.mlt_trace.specs.{declared.item.TraceItem.TraceItem, Numbers.begun_txs}
 use Rattle.mlt_script_serial.specs.declared.outcome.Outcome.{Outcome}
 use Rattle.mlt_trace_audit.specs.Outcomes.{IsOfHistory, IsWithoutTx, RisesTo}
 

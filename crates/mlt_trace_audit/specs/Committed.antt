@@ -1,11 +1,8 @@
 -- The committed outcomes, in the order of their commits, and the base that they lead to.
 use Rattle.std.specs.Prelude.{◌≡◌, ℕ, ◌+◌, List, [], ◌∷◌, map, Contains}
-use Rattle.mlt_object_kinds.specs.declared.operation.ObjOp.{ObjOp}
-use Rattle.mlt_object_kinds.specs.declared.operation.ObjReply.{ObjReply}
-use Rattle.mlt_object_kinds.specs.Bases.{Base, Step, empty_base}
+use Rattle.mlt_object_kinds.specs.{declared.operation.ObjOp.ObjOp, declared.operation.ObjReply.ObjReply, Bases.Base, Bases.Step, Bases.empty_base}
 use Rattle.mlt_order.specs.Runs.{IsSerialBase}
-use Rattle.mlt_script_serial.specs.declared.outcome.End.TheVariants.{Committed}
-use Rattle.mlt_script_serial.specs.declared.outcome.Outcome.{Outcome}
+use Rattle.mlt_script_serial.specs.declared.outcome.{End.TheVariants.Committed, Outcome.Outcome}
 use Rattle.mlt_trace_audit.specs.Orders.{IsCommitted}
 
 -- the commits of the outcomes have this number, the next one, and so on

@@ -1,8 +1,7 @@
 -- Histories in which transactions begin under the numbers 1, 2, 3 and so on, and each item stands behind its begin.
 use Rattle.std.specs.Prelude.{◌≡◌, ℕ, ◌+◌, ◌<◌, ◌≤◌, Bool, true, false, List, Some, count_by, length, slice_get, slice_index_or, take}
-use Rattle.mlt_trace.specs.declared.item.TraceItem.{TraceItem}
+use Rattle.mlt_trace.specs.{declared.item.TraceItem.TraceItem, Numbers.begin_count}
 use Rattle.mlt_trace.specs.declared.item.TraceItem.TheVariants.{Begin, Op, Back, Commit, Abort}
-use Rattle.mlt_trace.specs.Numbers.{begin_count}
 
 -- the transaction of which the item is
 abbrev pub tx_of : TraceItem → ℕ

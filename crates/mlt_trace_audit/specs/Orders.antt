@@ -1,7 +1,6 @@
 -- Outcomes that stand by client and then by script.
 use Rattle.std.specs.Prelude.{◌≡◌, ◌⊎◌, ℕ, ◌<◌, List, Some, slice_get}
-use Rattle.mlt_script_serial.specs.declared.outcome.End.TheVariants.{Committed}
-use Rattle.mlt_script_serial.specs.declared.outcome.Outcome.{Outcome}
+use Rattle.mlt_script_serial.specs.declared.outcome.{End.TheVariants.Committed, Outcome.Outcome}
 
 -- an outcome whose end is a commit
 abbrev pub IsCommitted : Outcome → Type 0

@@ -1,13 +1,9 @@
 -- What a history has of a transaction, and the outcomes of transactions.
 use Rattle.std.specs.Prelude.{◌≡◌, ◌≢◌, ℕ, ◌<◌, List, [], ◌∷◌, ◌++◌, ◌==◌, if◌then◌else◌}
 use Rattle.mlt_types.specs.declared.refusal.Refusal.{Refusal}
-use Rattle.mlt_object_kinds.specs.declared.operation.ObjOp.{ObjOp}
-use Rattle.mlt_object_kinds.specs.declared.operation.ObjReply.{ObjReply}
-use Rattle.mlt_trace.specs.declared.item.TraceItem.{TraceItem}
-use Rattle.mlt_trace.specs.declared.item.TraceItem.TheVariants.{Op, Commit, Abort}
-use Rattle.mlt_script_serial.specs.declared.outcome.End.{End}
-use Rattle.mlt_script_serial.specs.declared.outcome.End.TheVariants.{Committed, Refused}
-use Rattle.mlt_script_serial.specs.declared.outcome.Outcome.{Outcome}
+use Rattle.mlt_object_kinds.specs.declared.operation.{ObjOp.ObjOp, ObjReply.ObjReply}
+use Rattle.mlt_trace.specs.declared.item.TraceItem.{TraceItem, TheVariants.Op, TheVariants.Commit, TheVariants.Abort}
+use Rattle.mlt_script_serial.specs.declared.outcome.{End.End, End.TheVariants.Committed, End.TheVariants.Refused, Outcome.Outcome}
 
 -- How a transaction was closed.
 pub data Closing : Type 0 where

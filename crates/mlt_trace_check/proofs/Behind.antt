@@ -1,8 +1,7 @@
 -- Lines that end, whatever stands behind them.
 use Rattle.std.proofs.Common.{◌≡◌, ◌≤◌, ◌+◌, ℕ, Bool, true, false, cond, List, [], ◌∷◌, ◌++◌, length, refl, sym, ap, subst, ◌∙◌, append_assoc, arith}
 use Rattle.mlt_trace_check.proofs.Names.{Raw, is_lf}
-use Rattle.mlt_text_words.specs.Lines.{lines, onto}
-use Rattle.mlt_text_words.proofs.Cutting.{at_lf, at_other}
+use Rattle.mlt_text_words.{specs.Lines.lines, specs.Lines.onto, proofs.Cutting.at_lf, proofs.Cutting.at_other}
 
 -- the text of these lines
 abbrev joined : List Raw → List ℕ

@@ -2,8 +2,7 @@
 use Rattle.std.proofs.Common.{◌≡◌, ℕ, List, ◌∷◌, ◌++◌, sym, subst, ◌∙◌}
 use Rattle.mlt_trace_check.proofs.Names.{TraceCause, ObjOp, ObjReply, Base, Step, Runs, Raw, TraceItem, Bad, Says, HasFalseReply, HasPlace, IsFirstFaultOf, IsItemFault, IsLineFault, IsTrace, told}
 use Rattle.mlt_order.proofs.RunLemmas.{runs_split, runs_to_one}
-use Rattle.mlt_trace_check.specs.Readings.{reading}
-use Rattle.mlt_trace_check.proofs.Fronts.{RunsOn, base_functional, one_trace, trace_up_to}
+use Rattle.mlt_trace_check.{specs.Readings.reading, proofs.Fronts.RunsOn, proofs.Fronts.base_functional, proofs.Fronts.one_trace, proofs.Fronts.trace_up_to}
 
 -- no run goes past an operation that is false where it stands
 pub no_run_past : (front rest : List (ObjOp × ObjReply)) (done : ObjOp × ObjReply) (base middle end : Base) → Runs Step base front middle → ((next : Base) → Step middle done next → ⊥)

@@ -2,16 +2,8 @@
 use Rattle.std.proofs.Common.{◌≡◌, ◌⊎◌, ℕ, List, ◌++◌, Ok, Err, Result, Option, Some, None, sym, ap, subst, ◌∙◌, inl, inr, IfErr, IfOk, IsErrAnd, MatchResult}
 use Rattle.std.specs.Io.KnownBytes.{Consumes, IsAtEnd}
 use Rattle.mlt_trace_check.proofs.Names.{Refusal, TraceFault, TraceCause, IsWant, Base, lines, committed_txs, Answers, IsAcceptedTrace, IsFirstFault}
-use Rattle.mlt_trace_check.specs.declared.trace_check.Order.{Order}
-use Rattle.mlt_text.specs.Failures.{IsTraceFault}
-use Rattle.mlt_text.specs.Inputs.{GivesWhole}
-use Rattle.mlt_trace_check.specs.Answering.{IsOrderOf}
-use Rattle.mlt_trace_check.specs.Refusing.{IsRefusalBy}
-use Rattle.mlt_trace_check.proofs.Deciding.{accepted_no_fault}
-use Rattle.mlt_trace_check.proofs.Faults.{one_first_fault}
-use Rattle.mlt_trace_check.proofs.Fronts.{one_trace}
-use Rattle.mlt_trace_check.proofs.Growing.{append_nil}
-use Rattle.mlt_trace_check.proofs.Refusals.{want_or_fault}
+use Rattle.mlt_trace_check.{specs.declared.trace_check.Order.Order, specs.Answering.IsOrderOf, specs.Refusing.IsRefusalBy, proofs.Deciding.accepted_no_fault, proofs.Faults.one_first_fault, proofs.Fronts.one_trace, proofs.Growing.append_nil, proofs.Refusals.want_or_fault}
+use Rattle.mlt_text.specs.{Failures.IsTraceFault, Inputs.GivesWhole}
 
 pub accepted_once : (text txs others : List ℕ) (base other : Base) → IsAcceptedTrace text txs base → IsAcceptedTrace text others other → (txs ≡ others) × (base ≡ other)
 accepted_once text txs others base other one two =

@@ -1,11 +1,7 @@
 -- A text has one first fault.
 use Rattle.std.proofs.Common.{◌≡◌, ◌⊎◌, ℕ, ◌+◌, List, [], ◌∷◌, ◌++◌, length, refl, sym, ap, subst, ◌∙◌, inl, inr, append_assoc}
 use Rattle.mlt_trace_check.proofs.Names.{TraceCause, ObjOp, ObjReply, Base, Step, Lists, Runs, changed, Raw, TraceItem, Op, Commit, TraceReading, Bad, Says, ArePlaced, HasFalseReply, IsFirstFaultOf, IsItemFault, IsLineFault, IsTrace, told}
-use Rattle.mlt_trace_check.specs.Readings.{reading}
-use Rattle.mlt_trace_check.proofs.Deciding.{item_fault, no_fault_inside, no_run_past}
-use Rattle.mlt_trace_check.proofs.Fronts.{one_trace}
-use Rattle.mlt_trace_check.proofs.Growing.{begun_stays, told-push}
-use Rattle.mlt_trace_check.proofs.Lasting.{grows, runs_begun}
+use Rattle.mlt_trace_check.{specs.Readings.reading, proofs.Deciding.item_fault, proofs.Deciding.no_fault_inside, proofs.Deciding.no_run_past, proofs.Fronts.one_trace, proofs.Growing.begun_stays, proofs.Growing.told-push, proofs.Lasting.grows, proofs.Lasting.runs_begun}
 
 -- one list, cut at two of its elements
 abbrev pub CutTwice : {A : Type 0} → List A → List A → A → A → Type 0

@@ -1,11 +1,8 @@
 -- The front of a trace up to one of its lines.
 use Rattle.std.proofs.Common.{◌≡◌, ℕ, List, [], ◌∷◌, ◌++◌, map, refl, sym, ap, subst, ◌∙◌, append_assoc}
 use Rattle.mlt_trace_check.proofs.Names.{ObjOp, ObjReply, Base, Step, empty_base, base_one_answer, Lists, after_entry, no_lists, IsSerialBase, Runs, Raw, TraceItem, Begin, Op, Back, Commit, Abort, entries_of, entries_of-append, Says, HasPlace, IsTrace, told}
-use Rattle.mlt_order.specs.Histories.{Entry, after_entries}
-use Rattle.mlt_order.specs.Runs.{IsFunctional}
-use Rattle.mlt_order.proofs.RunLemmas.{serial_to_one}
-use Rattle.mlt_trace_check.specs.Readings.{reading}
-use Rattle.mlt_trace_check.proofs.Growing.{append_nil}
+use Rattle.mlt_order.{specs.Histories.Entry, specs.Histories.after_entries, specs.Runs.IsFunctional, proofs.RunLemmas.serial_to_one}
+use Rattle.mlt_trace_check.{specs.Readings.reading, proofs.Growing.append_nil}
 
 pub base_functional : IsFunctional Step
 base_functional before one other item h k = (base_one_answer before one other item.0 item.1 item.1 h k).1

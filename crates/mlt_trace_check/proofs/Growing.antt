@@ -2,9 +2,7 @@
 use Rattle.std.proofs.Common.{◌≡◌, ◌≢◌, ◌⊎◌, ℕ, List, [], ◌∷◌, ◌++◌, Contains, refl, sym, ap, subst, ◌∙◌, inl, inr}
 use Rattle.mlt_trace_check.proofs.Names.{Contains-append_left, ObjOp, ObjReply, Lists, after_entry, no_lists, Running, Ended, contains-first, changed, TraceItem, Begin, Op, Back, Commit, Abort, entry_of, entries_of, begun_txs, committed_txs, begun_txs-append, entries_of-append, told}
 use Rattle.std.proofs.lemmas.List.Elements.{Contains-append_cases, Contains-append_right}
-use Rattle.mlt_order.specs.Histories.{lists_of}
-use Rattle.mlt_order.proofs.Growing.{after_entries-push}
-use Rattle.mlt_order.proofs.Stages.{contains-one}
+use Rattle.mlt_order.{specs.Histories.lists_of, proofs.Growing.after_entries-push, proofs.Stages.contains-one}
 
 -- the number of the item's transaction
 abbrev pub number_in : TraceItem → ℕ

@@ -1,20 +1,9 @@
 -- A history passes the checker.
 use Rattle.std.proofs.Common.{◌≡◌, ◌≢◌, ℕ, List, [], refl, sym, subst}
-use Rattle.mlt_object_kinds.specs.Bases.{Base, Step, empty_base}
-use Rattle.mlt_object_kinds.proofs.BaseLaws.{base_one_start}
-use Rattle.mlt_order.specs.Histories.{IsCommitOrderSerializable, IsHistory}
-use Rattle.mlt_order.specs.Histories.Stage.{Running}
-use Rattle.mlt_order.specs.Interleavings.{UndoneTo}
-use Rattle.mlt_order.specs.Runs.{IsInjective, IsSerialBase}
-use Rattle.mlt_order.proofs.Keeping.{kept_by_history}
-use Rattle.mlt_trace.specs.declared.item.TraceItem.{TraceItem}
-use Rattle.mlt_trace.specs.Items.{trace_text}
-use Rattle.mlt_trace.specs.Entries.{entries_of}
-use Rattle.mlt_trace.specs.Numbers.{committed_txs}
-use Rattle.mlt_trace_check.specs.Traces.{ArePlaced, IsAcceptedTrace, told}
-use Rattle.mlt_trace_check.proofs.Fronts.{base_functional}
-use Rattle.mlt_trace_check.specs.Writable.{AreWritable}
-use Rattle.mlt_trace_check.proofs.Lines.{lines_say_items}
+use Rattle.mlt_object_kinds.{specs.Bases.Base, specs.Bases.Step, specs.Bases.empty_base, proofs.BaseLaws.base_one_start}
+use Rattle.mlt_order.{specs.Histories.IsCommitOrderSerializable, specs.Histories.IsHistory, specs.Histories.Stage.Running, specs.Interleavings.UndoneTo, specs.Runs.IsInjective, specs.Runs.IsSerialBase, proofs.Keeping.kept_by_history}
+use Rattle.mlt_trace.specs.{declared.item.TraceItem.TraceItem, Items.trace_text, Entries.entries_of, Numbers.committed_txs}
+use Rattle.mlt_trace_check.{specs.Traces.ArePlaced, specs.Traces.IsAcceptedTrace, specs.Traces.told, proofs.Fronts.base_functional, specs.Writable.AreWritable, proofs.Lines.lines_say_items}
 
 pub accepted : (items : List TraceItem) (base : Base) → AreWritable items → ArePlaced items → IsSerialBase Step empty_base (told items).committed base
     → IsAcceptedTrace (trace_text items) (committed_txs items) base

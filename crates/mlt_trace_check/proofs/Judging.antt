@@ -3,11 +3,7 @@ use Rattle.std.proofs.Common.{◌≡◌, ◌≢◌, ◌⊎◌, inl, inr, ℕ, �
 use Rattle.mlt_trace_check.proofs.Names.{cases_eq, TraceCause, ObjOp, ObjReply, Base, Step, empty_base, Lists, Stage, Fresh, Running, Ended, IsSerialBase, Runs, contains-first, serial_push, Raw, lines, TraceItem, Begin, Op, Back, Commit, Abort, begun_txs, commit_count, committed_txs, TraceReading, Bad, Says, ArePlaced, HasPlace, IsAcceptedTrace, IsFirstFault, IsFirstFaultOf, IsItemFault, IsLineFault, IsRunning, IsTrace, IsWhole, told}
 use Rattle.mlt_order.proofs.RunLemmas.{contains-later, contains-nothing}
 use Rattle.mlt_trace.proofs.BegunLaws.{first_or_later}
-use Rattle.mlt_trace_check.specs.Readings.{reading}
-use Rattle.mlt_trace_check.proofs.Progressing.{bad_line, fault_line, placed_more, said_more}
-use Rattle.mlt_trace_check.proofs.Growing.{append_nil, no_cut, told-push}
-use Rattle.mlt_trace_check.proofs.Lasting.{one_more}
-use Rattle.mlt_trace_check.proofs.Standing.{Stands, nothing_stands, stands_more}
+use Rattle.mlt_trace_check.{specs.Readings.reading, proofs.Progressing.bad_line, proofs.Progressing.fault_line, proofs.Progressing.placed_more, proofs.Progressing.said_more, proofs.Growing.append_nil, proofs.Growing.no_cut, proofs.Growing.told-push, proofs.Lasting.one_more, proofs.Standing.Stands, proofs.Standing.nothing_stands, proofs.Standing.stands_more}
 use Rattle.mlt_trace_check.proofs.Stepping.{Decided, IsFalseIn, all_three, below, both, runs_or_not}
 
 -- ---- whether an item has its place

@@ -2,12 +2,9 @@
 use Rattle.std.proofs.Common.{◌≡◌, ◌≢◌, ℕ, suc, zero, get_or, take, drop, Err, ◌+◌, ◌<◌, ◌≤◌, List, [], ◌∷◌, ◌++◌, Contains, length, true, false, Option, Some, None, refl, sym, ap, subst, ◌∙◌, inl, inr, append_assoc, arith, is_some, option_to_list, nat_cmp}
 use Rattle.mlt_trace_check.proofs.Names.{map-append, Contains-append_left, Refusal, OutOfMemory, TraceFault, TraceCause, ObjOp, ObjReply, Base, Step, empty_base, base_one_answer, Lists, Stage, Running, Ended, IsSerialBase, Runs, serial_push, at_each, changed, TraceItem, Begin, Op, Back, Commit, Abort, begun_txs, commit_count, begun_txs-append, OpenTx, Checker, dones, IsFalseAt, Replays, Knows, Takes, HasFalseReply, HasPlace, IsRunning, IsWhole, told}
 use Rattle.std.specs.BTreeMap as tree
-use Rattle.mlt_order.specs.Histories.{but_last}
-use Rattle.mlt_order.proofs.Growing.{but_last-push}
-use Rattle.mlt_order.proofs.RunLemmas.{runs_append}
+use Rattle.mlt_order.{specs.Histories.but_last, proofs.Growing.but_last-push, proofs.RunLemmas.runs_append}
 use Rattle.mlt_trace.proofs.ItemLaws.{commits_counted, no_begin, no_commit}
-use Rattle.mlt_trace_check.specs.Replaying.{DoneAt, ReplaysOne}
-use Rattle.mlt_trace_check.specs.Checkers.{AreInLines, KnowsBegun, KnowsRunning, KnowsTx}
+use Rattle.mlt_trace_check.specs.{Replaying.DoneAt, Replaying.ReplaysOne, Checkers.AreInLines, Checkers.KnowsBegun, Checkers.KnowsRunning, Checkers.KnowsTx}
 use Rattle.mlt_trace_check.proofs.Growing.{number_in, told-push, stage-other, transcript-other, last_one, earlier_or_last, begun_stays, split_last, no_cut}
 
 in_lines_more : (tx : ℕ) (items : List TraceItem) (item : TraceItem) (ops : List DoneAt) → AreInLines tx items ops → AreInLines tx (items ++ item ∷ []) ops

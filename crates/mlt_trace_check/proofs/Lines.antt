@@ -1,32 +1,16 @@
 -- The lines of a written trace say its items.
 use Rattle.std.proofs.Common.{◌≡◌, ◌≢◌, ℕ, ◌+◌, ◌^◌, ◌<◌, ◌≤◌, List, [], ◌∷◌, ◌++◌, length, map, true, Some, codes, refl, ap, ◌∙◌, append_assoc, arith, decimal, le-ltb, lt-ltb, ne_eqb}
 use Rattle.std.specs.List.{list_all}
-use Rattle.mlt_object_kinds.specs.declared.operation.ObjOp.{ObjOp}
-use Rattle.mlt_object_kinds.specs.declared.operation.ObjReply.{ObjReply}
-use Rattle.mlt_object_kinds.specs.Texts.{with_number, op_text, reply_text, done_text}
+use Rattle.mlt_object_kinds.specs.{declared.operation.ObjOp.ObjOp, declared.operation.ObjReply.ObjReply, Texts.with_number, Texts.op_text, Texts.reply_text, Texts.done_text, Ranges.FitsDone, Ranges.FitsReply}
 use Rattle.mlt_order.proofs.RunLemmas.{contains-first, contains-later}
-use Rattle.mlt_text_words.specs.declared.keyword.Keyword.{Keyword}
-use Rattle.mlt_text_words.specs.declared.keyword.Word.{Word}
-use Rattle.mlt_text_words.specs.declared.keyword.Word.TheVariants.{Key, Number}
-use Rattle.mlt_text_words.specs.Lines.{lines}
+use Rattle.mlt_text_words.{specs.declared.keyword.Keyword.Keyword, specs.declared.keyword.Word.Word, specs.declared.keyword.Word.TheVariants.Key, specs.declared.keyword.Word.TheVariants.Number, specs.Lines.lines, specs.Fronts.TextIs, specs.Fronts.is_printable, proofs.Cutting.line_cut, proofs.Allowed.all_allowed}
 use Rattle.mlt_text_words.specs.Words.{raw_words, words_of, words_from, spelling, word_of}
-use Rattle.mlt_text_words.specs.Fronts.{TextIs, is_printable}
-use Rattle.mlt_text_words.proofs.Cutting.{line_cut}
 use Rattle.mlt_text_words.proofs.Pieces.{at_most, beside, key_text, number_again, number_alone, number_is}
 use Rattle.mlt_script.specs.Forms.{key_at, number_below, reply_after, reply_at, reply_word}
-use Rattle.mlt_text_words.proofs.Allowed.{all_allowed}
-use Rattle.mlt_object_kinds.specs.Ranges.{FitsDone, FitsReply}
-use Rattle.mlt_script.proofs.Printed.{no_lines}
-use Rattle.mlt_script.proofs.Rereading.{keeps_its_end, op_again, op_is, op_words}
-use Rattle.mlt_trace.specs.declared.item.TraceItem.{TraceItem}
+use Rattle.mlt_script.proofs.{Printed.no_lines, Rereading.keeps_its_end, Rereading.op_again, Rereading.op_is, Rereading.op_words}
+use Rattle.mlt_trace.specs.{declared.item.TraceItem.TraceItem, Items.item_text, Items.trace_text}
 use Rattle.mlt_trace.specs.declared.item.TraceItem.TheVariants.{Begin, Op, Back, Commit, Abort}
-use Rattle.mlt_trace.specs.Items.{item_text, trace_text}
-use Rattle.mlt_trace_check.specs.declared.reading.TraceReading.TheVariants.{Says}
-use Rattle.mlt_trace_check.specs.Plain.{PieceIs}
-use Rattle.mlt_trace_check.proofs.PlainItems.{both}
-use Rattle.mlt_trace_check.specs.Readings.{item_of, item_with, reading}
-use Rattle.mlt_trace_check.specs.Words.{done_at, positive_at}
-use Rattle.mlt_trace_check.specs.Writable.{AreWritable, IsWritable}
+use Rattle.mlt_trace_check.{specs.declared.reading.TraceReading.TheVariants.Says, specs.Plain.PieceIs, proofs.PlainItems.both, specs.Readings.item_of, specs.Readings.item_with, specs.Readings.reading, specs.Words.done_at, specs.Words.positive_at, specs.Writable.AreWritable, specs.Writable.IsWritable}
 
 -- ---- pieces of a line
 

@@ -2,13 +2,7 @@
 use Rattle.std.proofs.Common.{◌≡◌, Bool, true, false, ℕ, List, [], ◌∷◌, ◌++◌, length, Ok, Err, refl, sym, ap, subst, ◌∙◌, append_assoc, append-nil}
 use Rattle.mlt_trace_check.proofs.Names.{Refusal, Raw, TraceReading, WentOver, IsAcceptedTrace, IsFirstFault, Progress, GoesOver, Refuses, IsSettled}
 use Rattle.mlt_text_words.specs.Lines.{lines}
-use Rattle.mlt_trace_check.specs.Readings.{reading}
-use Rattle.mlt_trace_check.specs.Progresses.{TakesLine}
-use Rattle.mlt_trace_check.specs.Refusing.{IsRefusalBy}
-use Rattle.mlt_trace_check.proofs.Progressing.{went_to_end}
-use Rattle.mlt_trace_check.proofs.Behind.{behind_first, lines_behind}
-use Rattle.mlt_trace_check.proofs.Refusals.{refused_too}
-use Rattle.mlt_trace_check.proofs.Settling.{FirstSays, says_ended, settled_stays}
+use Rattle.mlt_trace_check.{specs.Readings.reading, specs.Progresses.TakesLine, specs.Refusing.IsRefusalBy, proofs.Progressing.went_to_end, proofs.Behind.behind_first, proofs.Behind.lines_behind, proofs.Refusals.refused_too, proofs.Settling.FirstSays, proofs.Settling.says_ended, proofs.Settling.settled_stays}
 
 pub goes_nowhere : (progress : Progress) (text : List ℕ) → GoesOver progress progress text text
 goes_nowhere progress text = record { front = []; cut = refl; over = λ told taken behind h. h }

@@ -1,20 +1,9 @@
 -- A check that goes on from piece to piece, and how it stops.
 use Rattle.std.proofs.Common.{◌≡◌, ℕ, ◌≤◌, ◌+◌, ◌-◌, Bool, true, List, [], ◌++◌, map, Option, Some, None, IfSome, Result, Ok, Err, length, drop, length-append, arith, refl, sym, ap, subst, ◌∙◌, append_assoc, append-nil, IfOk, OnErr}
 use Rattle.mlt_trace_check.proofs.Names.{Appends, Appends-nil, Appends-trans, Consumes-nil, Refusal, AppendsFront, WentOver, serial_lines, IsAcceptedTrace, IsFirstFault, Progress, GoesOver, Refuses, GoesOn, IsDone, WritesOfFront, StopsIn}
-use Rattle.std.proofs.KnownBytes.{Consumes-trans}
-use Rattle.std.proofs.Math.Seq.{drop-append-add}
-use Rattle.std.proofs.lemmas.Grind.{flat_map-append}
+use Rattle.std.{proofs.KnownBytes.Consumes-trans, proofs.Math.Seq.drop-append-add, proofs.lemmas.Grind.flat_map-append, specs.Io.KnownBytes.Consumes, specs.Io.KnownBytes.IsAtEnd}
 use Rattle.mlt_text_words.specs.Lines.{lines}
-use Rattle.mlt_trace_check.specs.Checkers.{Knows}
-use Rattle.mlt_trace_check.specs.OrderTexts.{serial_line}
-use Rattle.mlt_trace_check.specs.Readings.{reading}
-use Rattle.mlt_trace_check.proofs.Progressing.{went_nowhere, went_to_end}
-use Rattle.mlt_trace_check.specs.LongTexts.{GivesAll}
-use Rattle.mlt_trace_check.proofs.Behind.{has_front, lines_behind}
-use Rattle.mlt_trace_check.proofs.Refusals.{refused_too}
-use Rattle.mlt_trace_check.proofs.Settling.{all_end}
-use Rattle.mlt_trace_check.specs.LongChecks.{IsToldOf}
-use Rattle.std.specs.Io.KnownBytes.{Consumes, IsAtEnd}
+use Rattle.mlt_trace_check.{specs.Checkers.Knows, specs.OrderTexts.serial_line, specs.Readings.reading, proofs.Progressing.went_nowhere, proofs.Progressing.went_to_end, specs.LongTexts.GivesAll, proofs.Behind.has_front, proofs.Behind.lines_behind, proofs.Refusals.refused_too, proofs.Settling.all_end, specs.LongChecks.IsToldOf}
 
 serial_join : (txs more : List ℕ) → serial_lines (txs ++ more) ≡ serial_lines txs ++ serial_lines more
 serial_join txs more = flat_map-append serial_line txs more

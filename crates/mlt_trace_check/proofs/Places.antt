@@ -2,16 +2,9 @@
 use Rattle.std.proofs.Common.{◌≡◌, ◌≢◌, ℕ, ◌+◌, ◌≤◌, List, [], ◌∷◌, ◌++◌, Contains, sym, ap, subst, inl, inr, arith}
 use Rattle.std.proofs.lemmas.List.Elements.{Contains-append_left, Contains-append_right}
 use Rattle.mlt_order.proofs.RunLemmas.{contains-first, contains-nothing}
-use Rattle.mlt_trace.specs.declared.item.TraceItem.{TraceItem}
+use Rattle.mlt_trace.{specs.declared.item.TraceItem.TraceItem, specs.Numbers.AreBegunInOrder, specs.Numbers.CountsFrom, specs.Numbers.begun_txs, proofs.ItemLaws.begun_txs-append, proofs.BegunLaws.first_or_later, specs.Ranges.AllFit}
 use Rattle.mlt_trace.specs.declared.item.TraceItem.TheVariants.{Begin, Op, Back, Commit, Abort}
-use Rattle.mlt_trace.specs.Numbers.{AreBegunInOrder, CountsFrom, begun_txs}
-use Rattle.mlt_trace.proofs.ItemLaws.{begun_txs-append}
-use Rattle.mlt_trace.proofs.BegunLaws.{first_or_later}
-use Rattle.mlt_trace_check.specs.Traces.{ArePlaced, HasPlace, IsRunning, IsWhole}
-use Rattle.mlt_trace_check.proofs.Growing.{earlier_or_last, no_cut}
-use Rattle.mlt_trace_check.proofs.Lasting.{runs_begun}
-use Rattle.mlt_trace.specs.Ranges.{AllFit}
-use Rattle.mlt_trace_check.specs.Writable.{AreWritable, IsNumbered}
+use Rattle.mlt_trace_check.{specs.Traces.ArePlaced, specs.Traces.HasPlace, specs.Traces.IsRunning, specs.Traces.IsWhole, proofs.Growing.earlier_or_last, proofs.Growing.no_cut, proofs.Lasting.runs_begun, specs.Writable.AreWritable, specs.Writable.IsNumbered}
 
 pub nothing_placed : ArePlaced []
 nothing_placed before later item e = absurd (no_cut before later item e)

@@ -1,18 +1,10 @@
 -- Lines of a trace of a plain form, as they are read in the general way.
 use Rattle.std.proofs.Common.{◌≡◌, ◌≢◌, ℕ, ◌+◌, ◌<◌, ◌≤◌, List, [], ◌∷◌, ◌++◌, length, map, true, Some, codes, refl, sym, ap, ◌∙◌, append_assoc, length-append, arith, le-ltb, ne_eqb, append-nil}
 use Rattle.mlt_trace_check.proofs.Names.{list_all, map-append, ObjOp, ObjReply, lines, raw_words, TraceItem, Abort, Back, Begin, Commit, Op}
-use Rattle.mlt_text_words.specs.declared.keyword.Word.{Word}
-use Rattle.mlt_text_words.specs.Numbers.{is_digit, number_of}
-use Rattle.mlt_text_words.specs.Words.{words_of, words_from, word_of}
-use Rattle.mlt_text_words.proofs.Cutting.{line_cut}
+use Rattle.mlt_text_words.{specs.declared.keyword.Word.Word, specs.Numbers.is_digit, specs.Numbers.number_of, specs.Words.words_of, specs.Words.words_from, specs.Words.word_of, proofs.Cutting.line_cut, proofs.Allowed.all_allowed}
 use Rattle.mlt_text_words.proofs.Pieces.{all_append, digits_printable, digits_word, word_alone, words_apart}
-use Rattle.mlt_script.specs.Forms.{reply_at}
-use Rattle.mlt_script.specs.Plain.{BeginsWithOp, BeginsWithReply}
-use Rattle.mlt_text_words.proofs.Allowed.{all_allowed}
-use Rattle.mlt_trace_check.specs.Plain.{BeginsWithDone, BeginsWithItem, BeginsWithNumbered, PieceIs}
-use Rattle.mlt_trace_check.specs.Readings.{item_of, item_with}
-use Rattle.mlt_trace_check.specs.Words.{done_at, positive_at}
-use Rattle.mlt_trace_check.proofs.Allowed.{allowed_reading}
+use Rattle.mlt_script.specs.{Forms.reply_at, Plain.BeginsWithOp, Plain.BeginsWithReply}
+use Rattle.mlt_trace_check.{specs.Plain.BeginsWithDone, specs.Plain.BeginsWithItem, specs.Plain.BeginsWithNumbered, specs.Plain.PieceIs, specs.Readings.item_of, specs.Readings.item_with, specs.Words.done_at, specs.Words.positive_at, proofs.Allowed.allowed_reading}
 
 -- two pieces with a space between them
 pub both : (t u : List ℕ) (ws vs : List (List ℕ)) (n m : ℕ) → PieceIs t ws n → PieceIs u vs m → PieceIs (t ++ 32 ∷ u) (ws ++ vs) (n + 1 + m)

@@ -1,12 +1,8 @@
 -- A text that a check goes over, line by line.
 use Rattle.std.proofs.Common.{◌≡◌, ℕ, ◌+◌, Bool, true, false, cond, List, [], ◌∷◌, ◌++◌, length, map, Ok, Err, Option, Some, None, nat_lt, refl, sym, ap, subst, ◌∙◌, inl, inr, append_assoc, length-append}
 use Rattle.mlt_trace_check.proofs.Names.{map-append, list_all, Refusal, TraceCause, Base, Raw, lines, is_allowed, raw_words, TraceItem, committed_txs, Checker, TraceReading, Bad, Says, Progress, WentOver, Knows, Takes, item_or_fault, ArePlaced, HasPlace, IsAcceptedTrace, IsFirstFault, IsItemFault, IsLineFault}
-use Rattle.mlt_text_words.specs.Lines.{content}
-use Rattle.mlt_text_words.proofs.Cutting.{no_lines}
-use Rattle.mlt_trace_check.specs.Progresses.{TakesLine}
-use Rattle.mlt_trace_check.specs.Readings.{item_of, reading}
-use Rattle.mlt_trace_check.proofs.Refusals.{refused_too}
-use Rattle.mlt_trace_check.proofs.Growing.{append_nil, committed_txs-append, no_cut, split_last}
+use Rattle.mlt_text_words.{specs.Lines.content, proofs.Cutting.no_lines}
+use Rattle.mlt_trace_check.{specs.Progresses.TakesLine, specs.Readings.item_of, specs.Readings.reading, proofs.Refusals.refused_too, proofs.Growing.append_nil, proofs.Growing.committed_txs-append, proofs.Growing.no_cut, proofs.Growing.split_last}
 
 -- ---- a line that is faulty by itself
 

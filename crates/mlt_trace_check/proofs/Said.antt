@@ -3,10 +3,7 @@ use Rattle.std.proofs.Common.{◌≡◌, ◌∙◌, ℕ, List, Option, Result, O
 use Rattle.std.specs.Io.KnownBytes.{Appends}
 use Rattle.mlt_trace_check.proofs.Names.{Refusal, OutOfMemory, IsWant, Base, IsAcceptedTrace, order_text}
 use Rattle.mlt_types.specs.declared.refusal.Refusal.TheVariants.{Io}
-use Rattle.mlt_text.specs.Failures.{FailsCleanly}
-use Rattle.mlt_text.specs.Inputs.{GivesWhole}
-use Rattle.mlt_text.specs.Texts.{AppendsFront}
-use Rattle.mlt_text.proofs.Failing.{finished, unfinished}
+use Rattle.mlt_text.{specs.Failures.FailsCleanly, specs.Inputs.GivesWhole, specs.Texts.AppendsFront, proofs.Failing.finished, proofs.Failing.unfinished}
 use Rattle.mlt_trace_check.specs.OrderTexts.{IsCheckOf, IsCheckText}
 
 -- the reader gave a trace, of which this is said

@@ -1,20 +1,12 @@
 -- What the check of a long trace answers, and that it is the only answer.
 use Rattle.std.proofs.Common.{◌≡◌, ◌⊎◌, inl, inr, ℕ, List, [], ◌++◌, Option, Some, None, Result, Ok, Err, refl, sym, ap, subst, ◌∙◌, append_assoc, IfErr, IsErrOf, OnErr, OnOk}
 use Rattle.mlt_trace_check.proofs.Names.{Appends, Appends-nil, Appends-trans, Consumes-nil, Refusal, Io, OutOfMemory, TraceCause, IsWant, AppendsFront, serial_lines, IsAcceptedTrace, IsFirstFault, Progress, IsDone, WritesOfFront}
-use Rattle.std.specs.Io.KnownBytes.{Keeps}
-use Rattle.std.proofs.KnownBytes.{Appends-kept}
+use Rattle.std.{specs.Io.KnownBytes.Keeps, proofs.KnownBytes.Appends-kept}
 use Rattle.mlt_object_base.specs.BaseText.{base_text}
 use Rattle.mlt_object_kinds.specs.Bases.{empty_base}
 use Rattle.mlt_text_words.specs.Lines.{lines}
-use Rattle.mlt_trace_check.specs.OrderTexts.{order_text}
+use Rattle.mlt_trace_check.{specs.OrderTexts.order_text, specs.Answering.Answers, proofs.Exactness.all_given, proofs.Refusals.refused_too, proofs.Refusals.refused_want, proofs.Refusals.want_or_fault, proofs.Growing.no_cut, specs.LongChecks.IsAnswer, specs.LongTexts.IsFirstFaultRead, specs.LongTexts.IsLongCheckOf, specs.LongTexts.StopsEarly, proofs.Pieces.accepted}
 use Rattle.mlt_text.specs.Failures.{IsTraceFault}
-use Rattle.mlt_trace_check.specs.Answering.{Answers}
-use Rattle.mlt_trace_check.proofs.Exactness.{all_given}
-use Rattle.mlt_trace_check.proofs.Refusals.{refused_too, refused_want, want_or_fault}
-use Rattle.mlt_trace_check.proofs.Growing.{no_cut}
-use Rattle.mlt_trace_check.specs.LongChecks.{IsAnswer}
-use Rattle.mlt_trace_check.specs.LongTexts.{IsFirstFaultRead, IsLongCheckOf, StopsEarly}
-use Rattle.mlt_trace_check.proofs.Pieces.{accepted}
 
 -- no text is a trace
 no_trace : IsAcceptedTrace [] [] empty_base

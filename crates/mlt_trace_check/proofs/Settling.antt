@@ -2,12 +2,8 @@
 use Rattle.std.proofs.Common.{◌≡◌, inl, inr, ℕ, ◌<◌, Bool, true, false, cond, List, [], ◌∷◌, ◌++◌, length, map, take, Option, Some, None, nat_lt, refl, sym, ap, subst, ◌∙◌, arith, lt-ltb, position}
 use Rattle.std.specs.List.{list_all}
 use Rattle.mlt_trace_check.proofs.Names.{TraceCause, Raw, is_lf, TraceItem, TraceReading, IsSettled}
-use Rattle.mlt_text_words.specs.Lines.{lines, content, is_allowed}
-use Rattle.mlt_text_words.specs.Words.{raw_words}
-use Rattle.mlt_text_words.proofs.Cutting.{found, not_found}
-use Rattle.mlt_trace_check.specs.declared.reading.TraceReading.TheVariants.{Bad, Says}
-use Rattle.mlt_trace_check.specs.Readings.{item_of, item_or_fault, reading}
-use Rattle.mlt_trace_check.proofs.Behind.{AllEnd, lines_behind, stays_long}
+use Rattle.mlt_text_words.{specs.Lines.lines, specs.Lines.content, specs.Lines.is_allowed, specs.Words.raw_words, proofs.Cutting.found, proofs.Cutting.not_found}
+use Rattle.mlt_trace_check.{specs.declared.reading.TraceReading.TheVariants.Bad, specs.declared.reading.TraceReading.TheVariants.Says, specs.Readings.item_of, specs.Readings.item_or_fault, specs.Readings.reading, proofs.Behind.AllEnd, proofs.Behind.lines_behind, proofs.Behind.stays_long}
 
 abbrev IsItem : TraceReading → Type 0
 IsItem (Bad fault) = ⊥

@@ -2,21 +2,12 @@
 use Rattle.std.proofs.Common.{◌≡◌, ◌⊎◌, inl, inr, ℕ, ◌+◌, ◌≤◌, ◌<◌, ◌^◌, Bool, true, false, List, [], ◌∷◌, ◌++◌, Option, Some, None, refl, ap, arith}
 use Rattle.mlt_trace_check.proofs.Names.{cases_eq, ObjOp, ObjReply, Base, Step, Runs, IsFalseAt}
 use Rattle.std.proofs.lemmas.Bool.{cases_lt}
-use Rattle.mlt_object_kinds.specs.declared.account.AccountOp.{AccountOp}
+use Rattle.mlt_object_kinds.{specs.declared.account.AccountOp.AccountOp, specs.declared.counter.CounterOp.CounterOp, specs.declared.counter.CounterOp.TheVariants.Up, specs.declared.counter.CounterOp.TheVariants.Down, specs.declared.counter.CounterOp.TheVariants.Read, specs.declared.element.ElementOp.ElementOp, specs.declared.element.ElementOp.TheVariants.Add, specs.declared.element.ElementOp.TheVariants.Remove, specs.declared.element.ElementOp.TheVariants.Has, specs.Bases.TellsSize, specs.Bases.size_at, specs.Bases.state_at, specs.Bases.with_state, proofs.BaseLaws.step_to, specs.Cells.CellState, specs.Cells.CellStep, specs.Cells.CellState.AccountState, specs.Cells.CellState.ElementState, specs.Cells.CellState.CounterState, specs.Cells.CellState.NoState, specs.Operations.cell_of}
 use Rattle.mlt_object_kinds.specs.declared.account.AccountOp.TheVariants.{Open, Close, Deposit, Withdraw, Balance}
-use Rattle.mlt_object_kinds.specs.declared.counter.CounterOp.{CounterOp}
-use Rattle.mlt_object_kinds.specs.declared.counter.CounterOp.TheVariants.{Up, Down, Read}
-use Rattle.mlt_object_kinds.specs.declared.element.ElementOp.{ElementOp}
-use Rattle.mlt_object_kinds.specs.declared.element.ElementOp.TheVariants.{Add, Remove, Has}
 use Rattle.mlt_object_kinds.specs.declared.operation.ObjReply.TheVariants.{Opened, Exists, Closed, NotEmpty, Done, Over, Short, Missing, Added, Present, Removed, Absent, Yes, No, Is}
 use Rattle.mlt_object_kinds.specs.Accounts as account
 use Rattle.mlt_object_kinds.specs.Counters as counter
 use Rattle.mlt_object_kinds.specs.Elements as element
-use Rattle.mlt_object_kinds.specs.Bases.{TellsSize, size_at, state_at, with_state}
-use Rattle.mlt_object_kinds.proofs.BaseLaws.{step_to}
-use Rattle.mlt_object_kinds.specs.Cells.{CellState, CellStep}
-use Rattle.mlt_object_kinds.specs.Cells.CellState.{AccountState, ElementState, CounterState, NoState}
-use Rattle.mlt_object_kinds.specs.Operations.{cell_of}
 
 -- the fact holds or it does not
 abbrev pub Decided : Type 0 → Type 0

@@ -2,9 +2,7 @@
 use Rattle.std.specs.Prelude.{◌≡◌, ℕ, List, Result, Ok, Err}
 use Rattle.mlt_types.specs.declared.refusal.Refusal.{Refusal}
 use Rattle.mlt_object_kinds.specs.Bases.{Base}
-use Rattle.mlt_trace_check.specs.declared.trace_check.Order.{Order}
-use Rattle.mlt_trace_check.specs.Traces.{IsAcceptedTrace, IsFirstFault}
-use Rattle.mlt_trace_check.specs.Refusing.{IsRefusalBy}
+use Rattle.mlt_trace_check.specs.{declared.trace_check.Order.Order, Traces.IsAcceptedTrace, Traces.IsFirstFault, Refusing.IsRefusalBy}
 
 -- the order has these transactions and this base
 abbrev pub IsOrderOf : Order → List ℕ → Base → Type 0

@@ -4,15 +4,9 @@ use Rattle.std.specs.BTreeMap as tree
 use Rattle.std.specs.Ordering.{nat_cmp}
 use Rattle.mlt_types.specs.declared.refusal.Refusal.{Refusal}
 use Rattle.mlt_object_kinds.specs.Bases.{Step, empty_base}
-use Rattle.mlt_order.specs.Histories.Stage.{Running}
-use Rattle.mlt_order.specs.Runs.{IsSerialBase}
-use Rattle.mlt_trace.specs.declared.item.TraceItem.{TraceItem}
-use Rattle.mlt_trace.specs.declared.item.TraceItem.TheVariants.{Op, Back}
-use Rattle.mlt_trace.specs.Numbers.{begun_txs, commit_count}
-use Rattle.mlt_trace_check.specs.declared.checker.OpenTx.{OpenTx}
-use Rattle.mlt_trace_check.specs.declared.checker.Checker.{Checker}
-use Rattle.mlt_trace_check.specs.Refusing.{IsRefusalBy}
-use Rattle.mlt_trace_check.specs.Replaying.{DoneAt, dones}
+use Rattle.mlt_order.specs.{Histories.Stage.Running, Runs.IsSerialBase}
+use Rattle.mlt_trace.specs.{declared.item.TraceItem.TraceItem, declared.item.TraceItem.TheVariants.Op, declared.item.TraceItem.TheVariants.Back, Numbers.begun_txs, Numbers.commit_count}
+use Rattle.mlt_trace_check.specs.{declared.checker.OpenTx.OpenTx, declared.checker.Checker.Checker, Refusing.IsRefusalBy, Replaying.DoneAt, Replaying.dones}
 use Rattle.mlt_trace_check.specs.Traces.{HasPlace, IsItemFault, IsRunning, IsWhole, told}
 
 -- each of the operations stands in its line, behind those before it

@@ -3,12 +3,7 @@ use Rattle.std.specs.Prelude.{◌≡◌, ℕ, List, [], Result, Ok, Err}
 use Rattle.std.specs.Io.KnownBytes.{Appends, Consumes, IsAtEnd}
 use Rattle.mlt_types.specs.declared.refusal.Refusal.{Refusal}
 use Rattle.mlt_object_kinds.specs.Bases.{Base}
-use Rattle.mlt_trace_check.specs.OrderTexts.{order_text, serial_lines}
-use Rattle.mlt_trace_check.specs.Refusing.{IsRefusalBy}
-use Rattle.mlt_trace_check.specs.Traces.{IsAcceptedTrace}
-use Rattle.mlt_trace_check.specs.declared.progress.Progress.{Progress}
-use Rattle.mlt_trace_check.specs.Progresses.{WentOver}
-use Rattle.mlt_trace_check.specs.LongTexts.{GivesAll, IsFirstFaultRead, KnownBytes}
+use Rattle.mlt_trace_check.specs.{OrderTexts.order_text, OrderTexts.serial_lines, Refusing.IsRefusalBy, Traces.IsAcceptedTrace, declared.progress.Progress.Progress, Progresses.WentOver, LongTexts.GivesAll, LongTexts.IsFirstFaultRead, LongTexts.KnownBytes}
 
 -- What was read are the lines that were gone over, and behind them the bytes that are held; and the `serial` lines of the
 -- commits that were told were written.

@@ -4,8 +4,7 @@ use Rattle.std.specs.Io.KnownBytes.{Consumes, IsAtEnd}
 use Rattle.mlt_types.specs.declared.refusal.TraceCause.{TraceCause}
 use Rattle.mlt_text.specs.Texts.{AppendsFront}
 use Rattle.mlt_object_kinds.specs.Bases.{Base}
-use Rattle.mlt_trace_check.specs.OrderTexts.{IsCheckText, serial_lines}
-use Rattle.mlt_trace_check.specs.Traces.{IsAcceptedTrace, IsFirstFault}
+use Rattle.mlt_trace_check.specs.{OrderTexts.IsCheckText, OrderTexts.serial_lines, Traces.IsAcceptedTrace, Traces.IsFirstFault}
 
 -- the bytes that a reader has left, or that a writer took, where these are known
 abbrev pub KnownBytes : Type 0

@@ -1,8 +1,7 @@
 -- What is said of an accepted trace.
 use Rattle.std.specs.Prelude.{◌≡◌, ℕ, List, [], ◌∷◌, ◌++◌, Option, codes, flat_map}
 use Rattle.mlt_text.specs.Inputs.{GivesWhole}
-use Rattle.mlt_object_kinds.specs.Bases.{Base}
-use Rattle.mlt_object_kinds.specs.Texts.{with_number}
+use Rattle.mlt_object_kinds.specs.{Bases.Base, Texts.with_number}
 use Rattle.mlt_object_base.specs.BaseText.{base_text}
 use Rattle.mlt_trace_check.specs.Traces.{IsAcceptedTrace}
 

@@ -1,15 +1,10 @@
 -- Lines of a trace of a plain form.
 use Rattle.std.specs.Prelude.{◌≡◌, ◌<◌, ◌≤◌, ℕ, List, ◌∷◌, ◌++◌, length, true, Some}
 use Rattle.std.specs.List.{list_all}
-use Rattle.mlt_object_kinds.specs.declared.operation.ObjOp.{ObjOp}
-use Rattle.mlt_object_kinds.specs.declared.operation.ObjReply.{ObjReply}
-use Rattle.mlt_text_words.specs.Fronts.{BeginsWithNumber, is_printable}
-use Rattle.mlt_text_words.specs.Lines.{Raw, lines}
-use Rattle.mlt_text_words.specs.Words.{raw_words, words_of}
+use Rattle.mlt_object_kinds.specs.declared.operation.{ObjOp.ObjOp, ObjReply.ObjReply}
+use Rattle.mlt_text_words.specs.{Fronts.BeginsWithNumber, Fronts.is_printable, Lines.Raw, Lines.lines, Words.raw_words, Words.words_of}
 use Rattle.mlt_trace.specs.declared.item.TraceItem.{TraceItem}
-use Rattle.mlt_trace_check.specs.declared.reading.TraceReading.TheVariants.{Says}
-use Rattle.mlt_trace_check.specs.Readings.{reading}
-use Rattle.mlt_trace_check.specs.Words.{done_at}
+use Rattle.mlt_trace_check.specs.{declared.reading.TraceReading.TheVariants.Says, Readings.reading, Words.done_at}
 
 -- what is known of a piece of a line: its words as their bytes, that it is printable, and at most how long it is
 abbrev pub PieceIs : List ℕ → List (List ℕ) → ℕ → Type 0

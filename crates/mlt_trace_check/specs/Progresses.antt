@@ -2,15 +2,8 @@
 use Rattle.std.specs.Prelude.{◌≡◌, ℕ, Bool, true, List, [], ◌∷◌, ◌++◌, length, map, Result, Ok, Err}
 use Rattle.mlt_types.specs.declared.refusal.Refusal.{Refusal}
 use Rattle.mlt_text_words.specs.Lines.{Raw, lines}
-use Rattle.mlt_trace.specs.declared.item.TraceItem.{TraceItem}
-use Rattle.mlt_trace.specs.Numbers.{committed_txs}
-use Rattle.mlt_trace_check.specs.declared.progress.Progress.{Progress}
-use Rattle.mlt_trace_check.specs.declared.reading.TraceReading.{TraceReading}
-use Rattle.mlt_trace_check.specs.declared.reading.TraceReading.TheVariants.{Says}
-use Rattle.mlt_trace_check.specs.Checkers.{Knows}
-use Rattle.mlt_trace_check.specs.Readings.{reading}
-use Rattle.mlt_trace_check.specs.Refusing.{IsRefusalBy}
-use Rattle.mlt_trace_check.specs.Traces.{ArePlaced, IsFirstFault}
+use Rattle.mlt_trace.specs.{declared.item.TraceItem.TraceItem, Numbers.committed_txs}
+use Rattle.mlt_trace_check.specs.{declared.progress.Progress.Progress, declared.reading.TraceReading.TraceReading, declared.reading.TraceReading.TheVariants.Says, Checkers.Knows, Readings.reading, Refusing.IsRefusalBy, Traces.ArePlaced, Traces.IsFirstFault}
 
 -- The lines of what was taken, before the rest, were gone over. By them the transactions committed that were told, and then
 -- those that are not told yet.

@@ -3,13 +3,10 @@ use Rattle.std.specs.Prelude.{ℕ, List, map, length, nat_lt, Option, Some, None
 use Rattle.std.specs.List.{list_all}
 use Rattle.mlt_types.specs.declared.refusal.TraceCause.{TraceCause}
 use Rattle.mlt_script.specs.Forms.{◌>>=◌}
-use Rattle.mlt_text_words.specs.Lines.{Raw, content, is_allowed}
-use Rattle.mlt_text_words.specs.Words.{first_word, raw_words, word_of}
+use Rattle.mlt_text_words.specs.{Lines.Raw, Lines.content, Lines.is_allowed, Words.first_word, Words.raw_words, Words.word_of}
 use Rattle.mlt_trace.specs.declared.item.TraceItem.{TraceItem}
 use Rattle.mlt_trace.specs.declared.item.TraceItem.TheVariants.{Begin, Op, Back, Commit, Abort}
-use Rattle.mlt_trace_check.specs.declared.reading.TraceReading.{TraceReading}
-use Rattle.mlt_trace_check.specs.declared.reading.TraceReading.TheVariants.{Bad, Says}
-use Rattle.mlt_trace_check.specs.Words.{done_at, no_more, positive_at}
+use Rattle.mlt_trace_check.specs.{declared.reading.TraceReading.TraceReading, declared.reading.TraceReading.TheVariants.Bad, declared.reading.TraceReading.TheVariants.Says, Words.done_at, Words.no_more, Words.positive_at}
 
 abbrev pub alone : TraceItem → List (List ℕ) → Option TraceItem
 alone item words = no_more item words

@@ -1,19 +1,12 @@
 -- Which traces are accepted, and where the first fault of any other text stands.
 use Rattle.std.specs.Prelude.{◌≡◌, ◌≢◌, ℕ, ◌+◌, ◌<◌, List, [], ◌∷◌, ◌++◌, length, map, Contains}
 use Rattle.mlt_types.specs.declared.refusal.TraceCause.{TraceCause}
-use Rattle.mlt_object_kinds.specs.declared.operation.ObjOp.{ObjOp}
-use Rattle.mlt_object_kinds.specs.declared.operation.ObjReply.{ObjReply}
-use Rattle.mlt_object_kinds.specs.Bases.{Base, Step, empty_base}
-use Rattle.mlt_order.specs.Histories.{Lists, lists_of}
-use Rattle.mlt_order.specs.Histories.Stage.{Running}
-use Rattle.mlt_order.specs.Runs.{IsSerialBase, Runs}
+use Rattle.mlt_object_kinds.specs.{declared.operation.ObjOp.ObjOp, declared.operation.ObjReply.ObjReply, Bases.Base, Bases.Step, Bases.empty_base}
+use Rattle.mlt_order.specs.{Histories.Lists, Histories.lists_of, Histories.Stage.Running, Runs.IsSerialBase, Runs.Runs}
 use Rattle.mlt_text_words.specs.Lines.{Raw, lines}
-use Rattle.mlt_trace.specs.declared.item.TraceItem.{TraceItem}
+use Rattle.mlt_trace.specs.{declared.item.TraceItem.TraceItem, Entries.entries_of, Numbers.begun_txs, Numbers.commit_count, Numbers.committed_txs}
 use Rattle.mlt_trace.specs.declared.item.TraceItem.TheVariants.{Begin, Op, Back, Commit, Abort}
-use Rattle.mlt_trace.specs.Entries.{entries_of}
-use Rattle.mlt_trace.specs.Numbers.{begun_txs, commit_count, committed_txs}
-use Rattle.mlt_trace_check.specs.declared.reading.TraceReading.TheVariants.{Bad, Says}
-use Rattle.mlt_trace_check.specs.Readings.{reading}
+use Rattle.mlt_trace_check.specs.{declared.reading.TraceReading.TheVariants.Bad, declared.reading.TraceReading.TheVariants.Says, Readings.reading}
 
 -- what the items tell of: who is running, and what was done, taken back and committed
 abbrev pub told : List TraceItem → Lists (ObjOp × ObjReply)

@@ -1,11 +1,8 @@
 -- The words of a line of a trace, as their bytes.
 use Rattle.std.specs.Prelude.{ℕ, List, [], ◌∷◌, Option, Some, None, if◌then◌else◌, ◌==◌}
-use Rattle.mlt_object_kinds.specs.declared.operation.ObjOp.{ObjOp}
-use Rattle.mlt_object_kinds.specs.declared.operation.ObjReply.{ObjReply}
-use Rattle.mlt_text_words.specs.declared.keyword.Word.{Word}
+use Rattle.mlt_object_kinds.specs.declared.operation.{ObjOp.ObjOp, ObjReply.ObjReply}
+use Rattle.mlt_text_words.specs.{declared.keyword.Word.Word, Numbers.number_of, Words.first_word}
 use Rattle.mlt_script.specs.Forms.{◌>>=◌, op_at, reply_at}
-use Rattle.mlt_text_words.specs.Numbers.{number_of}
-use Rattle.mlt_text_words.specs.Words.{first_word}
 
 abbrev pub if_positive : ℕ → List (List ℕ) → Option (ℕ × List (List ℕ))
 if_positive number words = if number == 0 then None else Some (number, words)

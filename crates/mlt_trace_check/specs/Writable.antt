@@ -1,8 +1,7 @@
 -- Items whose lines can be read again.
 use Rattle.std.specs.Prelude.{◌≤◌, List, Contains}
-use Rattle.mlt_trace.specs.declared.item.TraceItem.{TraceItem}
+use Rattle.mlt_trace.specs.{declared.item.TraceItem.TraceItem, Ranges.FitsItem}
 use Rattle.mlt_trace.specs.declared.item.TraceItem.TheVariants.{Begin, Op, Back, Commit, Abort}
-use Rattle.mlt_trace.specs.Ranges.{FitsItem}
 
 -- transactions and commits have numbers from 1 on
 abbrev pub IsNumbered : TraceItem → Type 0

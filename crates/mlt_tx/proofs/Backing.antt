@@ -2,8 +2,7 @@
 use Rattle.std.proofs.Common.{◌≡◌, List, [], ◌∷◌, ◌++◌, Option, refl, sym, ap, ◌∙◌}
 use Rattle.mlt_tx.proofs.Names.{Running, WalkContext, OperationFields, Answer, SharedState}
 use Rattle.mlt_object_base.specs.Undo.{Undo}
-use Rattle.mlt_tx.specs.Endings.{tx_state}
-use Rattle.mlt_tx.specs.Steps.{EndsBack, TellsOfBack}
+use Rattle.mlt_tx.specs.{Endings.tx_state, Steps.EndsBack, Steps.TellsOfBack}
 
 -- a list has one last item
 last_from : {A : Type 0} → List A → A → A

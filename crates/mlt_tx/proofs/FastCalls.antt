@@ -4,8 +4,7 @@ use Rattle.std.specs.FinMap as map
 use Rattle.mlt_tx.proofs.Names.{cases_eq, nat_tests, get_inserted, same_entries, ObjOp, ObjReply, WalkContext, SharedState, Transaction, ChangesOne, Table}
 use Rattle.mlt_page_subtx.specs.Images.{Running}
 use Rattle.mlt_event.specs.declared.answer.Answer.{Answer}
-use Rattle.mlt_tx.specs.Fast.{CallsFast, StepsFast, TakesStep}
-use Rattle.mlt_tx.specs.Tables.{CallsOneFast, StepsOne, StepsOneFast}
+use Rattle.mlt_tx.specs.{Fast.CallsFast, Fast.StepsFast, Fast.TakesStep, Tables.CallsOneFast, Tables.StepsOne, Tables.StepsOneFast}
 
 inserted_here : (table : Table) (tx : ℕ) (t : Transaction) → map.get (map.insert table tx t) tx ≡ Some t
 inserted_here table tx t = grind (arith, nat_tests, get_inserted table tx t tx)

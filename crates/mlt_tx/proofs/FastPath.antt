@@ -5,9 +5,7 @@ use Rattle.mlt_object_base.specs.declared.request.Request.TheVariants.{Do}
 use Rattle.mlt_page.specs.Stores.{PageStore}
 use Rattle.mlt_page_subtx.specs.Images.{started}
 use Rattle.mlt_tx_operation.specs.Fast.{GoesOn, PassesFast}
-use Rattle.mlt_tx.specs.Fast.{TakesStep}
-use Rattle.mlt_tx.specs.Endings.{IsDone}
-use Rattle.mlt_tx.specs.Transactions.{tx_state_of}
+use Rattle.mlt_tx.specs.{Fast.TakesStep, Endings.IsDone, Transactions.tx_state_of}
 
 -- the transaction, and what all share, at a moment of its operation
 abbrev pub at_local : Transaction → LocalState → OperationFields → Transaction

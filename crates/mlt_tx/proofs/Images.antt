@@ -5,9 +5,7 @@ use Rattle.mlt_tx.proofs.Names.{cases_eq, Transaction, TxSlot, Table, AreTxSlots
 use Rattle.std.proofs.lemmas.List.{get_or_default}
 use Rattle.mlt_page.specs.declared.page.Page.{Page}
 use Rattle.mlt_page_subtx.specs.Images.{image_of}
-use Rattle.mlt_tx.specs.Tables.{KeepsImage, KeepsNoImage}
-use Rattle.mlt_tx.specs.TxSlots.{KeepsInSlot}
-use Rattle.mlt_tx.proofs.TxSlots.{get-table_of, stands_in_table}
+use Rattle.mlt_tx.{specs.Tables.KeepsImage, specs.Tables.KeepsNoImage, specs.TxSlots.KeepsInSlot, proofs.TxSlots.get-table_of, proofs.TxSlots.stands_in_table}
 
 -- where nobody in a slot keeps an image of the page, no transaction of the table does
 pub none_keeps : (slots : List TxSlot) (page : ℕ) → LackImage slots page (length slots) → KeepsNoImage (table_of slots) page

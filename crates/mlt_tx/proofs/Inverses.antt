@@ -1,18 +1,10 @@
 -- An inverse adds no record, so it splits nothing, stays in its first pass, and is never refused
 use Rattle.std.proofs.Common.{◌≡◌, ℕ, Bool, true, false, None, Option, Some, refl, sym, ap, subst, ◌∙◌, inl, inr}
 use Rattle.std.proofs.lemmas.Bool.{false≢true}
-use Rattle.mlt_object_kinds.specs.declared.account.AccountOp.TheVariants.{Open, Close, Deposit, Withdraw}
-use Rattle.mlt_object_kinds.specs.declared.counter.CounterOp.TheVariants.{Up, Down}
-use Rattle.mlt_object_kinds.specs.declared.element.ElementOp.{ElementOp}
+use Rattle.mlt_object_kinds.specs.declared.{account.AccountOp.TheVariants.Open, account.AccountOp.TheVariants.Close, account.AccountOp.TheVariants.Deposit, account.AccountOp.TheVariants.Withdraw, counter.CounterOp.TheVariants.Up, counter.CounterOp.TheVariants.Down, element.ElementOp.ElementOp, operation.ObjOp.TheVariants.Account, operation.ObjOp.TheVariants.Element, operation.ObjOp.TheVariants.Counter, operation.ObjOp.TheVariants.Size}
 use Rattle.mlt_tx.proofs.Names.{ObjOp, ObjReply, TakeBack, inverse_of, LocalState, WalkContext, OperationFields, started_for, TellsOfStart}
-use Rattle.mlt_object_kinds.specs.declared.operation.ObjOp.TheVariants.{Account, Element, Counter, Size}
-use Rattle.mlt_object_base.specs.declared.record.RecChange.{RecChange}
-use Rattle.mlt_object_base.specs.declared.record.RecChange.TheVariants.{Add}
-use Rattle.mlt_object_base.specs.declared.request.Request.{Request}
-use Rattle.mlt_object_base.specs.Requests.{decision, size_key_of}
-use Rattle.mlt_tx_operation.specs.declared.answer.StepAnswer.{StepAnswer}
-use Rattle.mlt_tx_operation.specs.Answers.{StepsOn, TellsOfStep, Waits}
-use Rattle.mlt_tx_operation.specs.Operating.{IsInFirst, access_path_for}
+use Rattle.mlt_object_base.specs.{declared.record.RecChange.RecChange, declared.record.RecChange.TheVariants.Add, declared.request.Request.Request, Requests.decision, Requests.size_key_of}
+use Rattle.mlt_tx_operation.specs.{declared.answer.StepAnswer.StepAnswer, Answers.StepsOn, Answers.TellsOfStep, Answers.Waits, Operating.IsInFirst, Operating.access_path_for}
 use Rattle.mlt_tx_two_records.specs.Performing.{AsksToAdd}
 use Rattle.mlt_tx.specs.Steps.{IsInverting, answer_of}
 

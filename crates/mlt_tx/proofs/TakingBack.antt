@@ -3,16 +3,10 @@ use Rattle.mlt_tx.proofs.Names.{zero, UndoneTo, Step, ObjOp, ObjReply, Transacti
 use Rattle.std.proofs.Common.{suc, ◌≡◌, ◌≢◌, ℕ, ◌+◌, ◌<◌, ◌≤◌, true, false, not, ◌&&◌, cond, List, [], ◌∷◌, ◌++◌, length, drop, get_or, Option, None, Some, is_some, refl, sym, ap, subst, ◌∙◌, arith, ne_eqb, append-nil, nat_cmp}
 use Rattle.std.proofs.lemmas.List.{drop_more}
 use Rattle.std.specs.FinMap as map
-use Rattle.mlt_order.specs.Interleavings.{IsInterleaving, all_items, items_of}
-use Rattle.mlt_order.specs.Runs.{Runs}
-use Rattle.mlt_order.specs.Tables.{IsEmptied}
+use Rattle.mlt_order.{specs.Interleavings.IsInterleaving, specs.Interleavings.all_items, specs.Interleavings.items_of, specs.Runs.Runs, specs.Tables.IsEmptied, proofs.RunLemmas.runs_split, proofs.Tables.at_each, proofs.UndoLaws.undone_to_same}
 use Rattle.mlt_order.proofs.Parts.{all_items-append, all_items-numbered, items_of-append, items_of-numbered_other, items_of-numbered_same, numbered}
-use Rattle.mlt_order.proofs.RunLemmas.{runs_split}
-use Rattle.mlt_order.proofs.Tables.{at_each}
-use Rattle.mlt_order.proofs.UndoLaws.{undone_to_same}
 use Rattle.mlt_object_kinds.specs.Bases.{Base, TranscriptLeads}
-use Rattle.mlt_tx.specs.Standing.{entries_of}
-use Rattle.mlt_tx.specs.TxSlots.{entries_in}
+use Rattle.mlt_tx.specs.{Standing.entries_of, TxSlots.entries_in}
 use Rattle.mlt_tx.proofs.TxSlots.{OneEach, get-table_of, later, no_second, stands_in_table}
 
 abbrev Item : Type 0

@@ -3,10 +3,8 @@ use Rattle.std.proofs.Common.{◌≡◌, ℕ, Some, None, Result, Ok, Err, OnOk,
 use Rattle.std.specs.FinMap as map
 use Rattle.mlt_types.specs.declared.refusal.Refusal.{Refusal}
 use Rattle.mlt_tx.proofs.Names.{ObjOp, SharedState, At, Transaction, IsPending, IsUndoing, TxSlot, Table, IsBusy, is_slot_of, table_of}
-use Rattle.mlt_tx.specs.declared.activity.ActivityState.{ActivityState}
-use Rattle.mlt_tx.specs.Tables.{CallsNone, CallsOne}
+use Rattle.mlt_tx.{specs.declared.activity.ActivityState.ActivityState, specs.Tables.CallsNone, specs.Tables.CallsOne, proofs.TxSlots.none_sits, proofs.TxSlots.who_sits}
 use Rattle.mlt_tx.specs.OpenAt.{IsIdleWith, IsNotOpen, IsOpenAt, MayCallOne, TriesCall}
-use Rattle.mlt_tx.proofs.TxSlots.{none_sits, who_sits}
 
 pending_is_busy : (a : At) → IsPending a → IsBusy a
 pending_is_busy At.Idle is = is

@@ -1,11 +1,8 @@
 -- The table of slots: the first slot of a number counts.
 use Rattle.mlt_tx.proofs.Names.{zero, nat_tests, get_inserted, same_entries, Transaction, TxSlot, ChangesOne, Table, AreTxSlots, is_free, is_slot_of, table_of}
 use Rattle.std.proofs.Common.{◌≡◌, ℕ, suc, ◌≤◌, ◌<◌, ◌+◌, eqb, true, false, not, cond, ◌&&◌, Some, None, is_some, IsSome, List, [], ◌∷◌, ◌++◌, length, get_or, set, refl, sym, ap, ◌∙◌, arith, position, nat_cmp}
-use Rattle.std.specs.List.{position_from}
-use Rattle.std.specs.Cmp.{nat_cmp_total}
+use Rattle.std.{specs.List.position_from, specs.Cmp.nat_cmp_total, proofs.lemmas.Iterator.Adapters.position_from-zero, proofs.lemmas.List.Quantifiers.position-Some}
 use Rattle.std.specs.FinMap as map
-use Rattle.std.proofs.lemmas.Iterator.Adapters.{position_from-zero}
-use Rattle.std.proofs.lemmas.List.Quantifiers.{position-Some}
 use Rattle.mlt_page_locks.proofs.Maps.{get_removed}
 use Rattle.mlt_tx.specs.TxSlots.{slots_taken}
 

@@ -1,7 +1,6 @@
 -- What the end of an operation does to the pages, the object locks, the undo list and the history
 use Rattle.std.specs.Prelude.{ℕ, ◌≡◌, ◌+◌, [], ◌∷◌, ◌++◌}
-use Rattle.mlt_object_kinds.specs.declared.operation.ObjOp.{ObjOp}
-use Rattle.mlt_object_kinds.specs.declared.operation.ObjReply.{ObjReply}
+use Rattle.mlt_object_kinds.specs.declared.operation.{ObjOp.ObjOp, ObjReply.ObjReply}
 use Rattle.mlt_page_locks.specs.Requests.{released}
 use Rattle.mlt_page_subtx.specs.Images.{Running, put_back, started}
 use Rattle.mlt_object_base.specs.Undo.{Undo}

@@ -1,20 +1,14 @@
 -- What a pending operation does to its transaction that takes all of its steps at once
 use Rattle.std.specs.Prelude.{◌≡◌, ◌≤◌, ◌+◌, Option, None, Some}
-use Rattle.mlt_object_kinds.specs.declared.operation.ObjOp.{ObjOp}
-use Rattle.mlt_object_kinds.specs.declared.operation.ObjReply.{ObjReply}
-use Rattle.mlt_object_kinds.specs.Operations.{cell_of}
+use Rattle.mlt_object_kinds.specs.{declared.operation.ObjOp.ObjOp, declared.operation.ObjReply.ObjReply, Operations.cell_of}
 use Rattle.mlt_object_base.specs.declared.request.Request.TheVariants.{Do}
 use Rattle.mlt_object_locks.specs.Locks.{reservation_of}
 use Rattle.mlt_page_subtx.specs.Images.{started}
 use Rattle.mlt_hash_access.specs.LocalStates.{local}
 use Rattle.mlt_hash.specs.Walks.{WalkContext}
-use Rattle.mlt_tx_operation.specs.Operating.{MayOperate, started_for}
-use Rattle.mlt_tx_operation.specs.Fast.{NobodyHolds}
+use Rattle.mlt_tx_operation.specs.{Operating.MayOperate, Operating.started_for, Fast.NobodyHolds}
 use Rattle.mlt_event.specs.declared.answer.Answer.{Answer}
-use Rattle.mlt_tx.specs.declared.shared.SharedState.{SharedState}
-use Rattle.mlt_tx.specs.declared.transaction.At.{At}
-use Rattle.mlt_tx.specs.declared.transaction.Transaction.{Transaction}
-use Rattle.mlt_tx.specs.Transactions.{MakesRoom, TellsOfCall, TellsOfTransaction}
+use Rattle.mlt_tx.specs.{declared.shared.SharedState.SharedState, declared.transaction.At.At, declared.transaction.Transaction.Transaction, Transactions.MakesRoom, Transactions.TellsOfCall, Transactions.TellsOfTransaction}
 
 -- The transaction is at nothing and has written nothing, and nobody holds a page. Were it called with this operation, it might
 -- take its steps.

@@ -5,11 +5,7 @@ use Rattle.mlt_types.specs.declared.refusal.Refusal.{Refusal}
 use Rattle.mlt_object_kinds.specs.declared.operation.ObjOp.{ObjOp}
 use Rattle.mlt_hash.specs.Walks.{WalkContext}
 use Rattle.mlt_event.specs.declared.answer.Answer.{Answer}
-use Rattle.mlt_tx.specs.declared.shared.SharedState.{SharedState}
-use Rattle.mlt_tx.specs.declared.transaction.At.{At}
-use Rattle.mlt_tx.specs.declared.transaction.Transaction.{Transaction}
-use Rattle.mlt_tx.specs.Transactions.{IsPending, IsUndoing, MayStepIn}
-use Rattle.mlt_tx.specs.Tables.{CallsNone, CallsOne, StepsOne, Table}
+use Rattle.mlt_tx.specs.{declared.shared.SharedState.SharedState, declared.transaction.At.At, declared.transaction.Transaction.Transaction, Transactions.IsPending, Transactions.IsUndoing, Transactions.MayStepIn, Tables.CallsNone, Tables.CallsOne, Tables.StepsOne, Tables.Table}
 
 -- what a transaction may be at
 abbrev pub IsIdle : At → Type 0

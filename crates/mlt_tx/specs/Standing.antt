@@ -1,10 +1,8 @@
 -- What stands of the open transactions.
 use Rattle.std.specs.Prelude.{ℕ, List, [], Option, None, Some}
 use Rattle.std.specs.FinMap as map
-use Rattle.mlt_object_kinds.specs.declared.operation.ObjOp.{ObjOp}
-use Rattle.mlt_object_kinds.specs.declared.operation.ObjReply.{ObjReply}
-use Rattle.mlt_tx.specs.declared.transaction.Transaction.{Transaction}
-use Rattle.mlt_tx.specs.Tables.{Table}
+use Rattle.mlt_object_kinds.specs.declared.operation.{ObjOp.ObjOp, ObjReply.ObjReply}
+use Rattle.mlt_tx.specs.{declared.transaction.Transaction.Transaction, Tables.Table}
 
 -- what a transaction did and has not taken back, in order, if it is open
 abbrev pub entries_of : Option Transaction → List (ObjOp × ObjReply)

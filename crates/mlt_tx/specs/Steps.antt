@@ -1,22 +1,15 @@
 -- What the steps of one transaction ask and tell
 use Rattle.std.specs.Prelude.{ℕ, ◌≡◌, ◌≤◌, ◌+◌, List, [], ◌∷◌, ◌++◌, Option, None, Some, IsSome, filter}
-use Rattle.mlt_object_kinds.specs.declared.operation.ObjOp.{ObjOp}
-use Rattle.mlt_object_kinds.specs.declared.operation.ObjReply.{ObjReply}
-use Rattle.mlt_object_kinds.specs.Operations.{cell_of}
-use Rattle.mlt_object_base.specs.declared.request.Request.TheVariants.{Do, TakeBack}
-use Rattle.mlt_object_base.specs.Effects.{inverse_of}
+use Rattle.mlt_object_kinds.specs.{declared.operation.ObjOp.ObjOp, declared.operation.ObjReply.ObjReply, Operations.cell_of}
+use Rattle.mlt_object_base.specs.{declared.request.Request.TheVariants.Do, declared.request.Request.TheVariants.TakeBack, Effects.inverse_of, Undo.Undo}
 use Rattle.mlt_page_subtx.specs.Images.{AreThere, Running}
-use Rattle.mlt_object_base.specs.Undo.{Undo}
 use Rattle.mlt_object_locks.specs.Locks.{SameReservations, is_of_other, reservation_of}
 use Rattle.mlt_hash_access.specs.LocalStates.{LocalState, local}
 use Rattle.mlt_hash.specs.Walks.{WalkContext}
-use Rattle.mlt_tx_operation.specs.declared.answer.StepAnswer.{StepAnswer}
-use Rattle.mlt_tx_operation.specs.Answers.{StepsOn, TellsOfStep, Waits}
-use Rattle.mlt_tx_operation.specs.Operating.{IsInFirst, MayOperate, OperationFields, started_for}
+use Rattle.mlt_tx_operation.specs.{declared.answer.StepAnswer.StepAnswer, Answers.StepsOn, Answers.TellsOfStep, Answers.Waits, Operating.IsInFirst, Operating.MayOperate, Operating.OperationFields, Operating.started_for}
 use Rattle.mlt_trace.specs.declared.item.TraceItem.{TraceItem}
 use Rattle.mlt_event.specs.declared.answer.Answer.{Answer}
-use Rattle.mlt_tx.specs.declared.shared.SharedState.{SharedState}
-use Rattle.mlt_tx.specs.Endings.{EndsSubtx, TellsOfEnd, TxState}
+use Rattle.mlt_tx.specs.{declared.shared.SharedState.SharedState, Endings.EndsSubtx, Endings.TellsOfEnd, Endings.TxState}
 
 -- the answer to a step, as its transaction gives it
 abbrev pub answer_of : StepAnswer → Answer

@@ -1,19 +1,13 @@
 -- What the events of one transaction ask and tell
 use Rattle.std.specs.Prelude.{ℕ, ◌≡◌, ◌≤◌, ◌+◌, Option, Some}
-use Rattle.mlt_object_kinds.specs.declared.operation.ObjOp.{ObjOp}
-use Rattle.mlt_object_kinds.specs.Operations.{cell_of}
-use Rattle.mlt_object_base.specs.declared.request.Request.TheVariants.{Do}
+use Rattle.mlt_object_kinds.specs.{declared.operation.ObjOp.ObjOp, Operations.cell_of}
+use Rattle.mlt_object_base.specs.{declared.request.Request.TheVariants.Do, Undo.Undo}
 use Rattle.mlt_object_locks.specs.Locks.{SameReservations, reservation_of}
-use Rattle.mlt_object_base.specs.Undo.{Undo}
 use Rattle.mlt_page_subtx.specs.Images.{Running}
 use Rattle.mlt_hash.specs.Walks.{WalkContext}
 use Rattle.mlt_tx_operation.specs.Operating.{OperationFields, started_for}
 use Rattle.mlt_event.specs.declared.answer.Answer.{Answer}
-use Rattle.mlt_tx.specs.declared.shared.SharedState.{SharedState}
-use Rattle.mlt_tx.specs.declared.transaction.At.{At}
-use Rattle.mlt_tx.specs.declared.transaction.Transaction.{Transaction}
-use Rattle.mlt_tx.specs.Endings.{RollsBackSubtx, TxState}
-use Rattle.mlt_tx.specs.Steps.{MayStepBack, MayStepOn, TellsOfBack, TellsOfPending}
+use Rattle.mlt_tx.specs.{declared.shared.SharedState.SharedState, declared.transaction.At.At, declared.transaction.Transaction.Transaction, Endings.RollsBackSubtx, Endings.TxState, Steps.MayStepBack, Steps.MayStepOn, Steps.TellsOfBack, Steps.TellsOfPending}
 
 -- where a transaction works
 abbrev pub tx_state_of : Transaction → SharedState → TxState

@@ -1,12 +1,10 @@
 -- The table that slots make.
 use Rattle.std.specs.Prelude.{◌≡◌, ℕ, ◌==◌, ◌+◌, ◌<◌, Bool, false, not, ◌&&◌, cond, Option, None, Some, List, [], ◌∷◌, length, slice_index_or}
-use Rattle.mlt_object_kinds.specs.declared.operation.ObjOp.{ObjOp}
-use Rattle.mlt_object_kinds.specs.declared.operation.ObjReply.{ObjReply}
+use Rattle.mlt_object_kinds.specs.declared.operation.{ObjOp.ObjOp, ObjReply.ObjReply}
 use Rattle.mlt_page.specs.declared.page.Page.{Page}
 use Rattle.mlt_page_subtx.specs.Images.{image_of}
 use Rattle.std.specs.FinMap as map
-use Rattle.mlt_tx.specs.declared.tx_slot.TxSlot.{TxSlot}
-use Rattle.mlt_tx.specs.Tables.{HasDoneNothing, Table}
+use Rattle.mlt_tx.specs.{declared.tx_slot.TxSlot.TxSlot, Tables.HasDoneNothing, Tables.Table}
 
 -- nobody lies there
 abbrev pub is_free : TxSlot → Bool

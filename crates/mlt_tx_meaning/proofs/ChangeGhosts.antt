@@ -2,10 +2,8 @@
 use Rattle.std.proofs.Common.{◌≡◌, ℕ, ◌+◌, ◌-◌, ◌%◌, ◌^◌, true, false, Option, Some, None, subst, sym, refl, inl, inr, nat_cmp}
 use Rattle.std.specs.FinMap as map
 use Rattle.mlt_tx_meaning.proofs.Names.{IsInRange, key_number, Cell, Page, ObjOp, Account, Element, Counter, Size, cell_of, RecChange, size_change_on, Change, Set, last_by, Added, Presence, Removed, Standing, Performs, ChangesPages, KeepsPages, LeavesChange, IsOpenAt, IsFileWithGhosts, AbstractState, ledger_with, record_at}
-use Rattle.mlt_tx_meaning.proofs.Matches.{kept_pages}
-use Rattle.mlt_tx_meaning.proofs.Replies.{ForResizes}
+use Rattle.mlt_tx_meaning.proofs.{Matches.kept_pages, Replies.ForResizes, Standings.IsUnopposed, Standings.Says}
 use Rattle.mlt_tx_meaning.proofs.SlotGhosts.{puts, puts_unsaid, removes, revived_was_removed, revives, sets, takes_addition_back, takes_removal_back}
-use Rattle.mlt_tx_meaning.proofs.Standings.{IsUnopposed, Says}
 
 -- ---- what is done
 

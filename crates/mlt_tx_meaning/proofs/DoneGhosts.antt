@@ -3,10 +3,7 @@ use Rattle.std.proofs.Common.{◌≡◌, ℕ, false, Contains, Option, nat_cmp}
 use Rattle.std.specs.FinMap as map
 use Rattle.mlt_tx_meaning.proofs.Names.{IsInRange, Cell, Page, Transcript, ObjOp, ObjReply, cell_of, RecChange, changes_on, own_change_on, size_change_on, changes_of, told_by, live_records, Presence, Removed, Standing, ChangesPages, op_key, presence_of, standing_of, IsOpenAt, IsFileWithGhosts, PagesMeanHistory, AbstractState, ledger_with, ledger_of, lists_in, record_of, size_record_of, stood_in}
 use Rattle.mlt_tx_meaning.proofs.ChangeGhosts.{KeepsResized, added, counted, file_stays, removed, resized, size_made, updated}
-use Rattle.mlt_tx_meaning.proofs.Matches.{in_range_there}
-use Rattle.mlt_tx_meaning.proofs.RecordChanges.{changes_split}
-use Rattle.mlt_tx_meaning.proofs.Replies.{by_reply, by_size_change}
-use Rattle.mlt_tx_meaning.proofs.Standings.{IsUnopposed, Says, nothing_on_counts}
+use Rattle.mlt_tx_meaning.proofs.{Matches.in_range_there, RecordChanges.changes_split, Replies.by_reply, Replies.by_size_change, Standings.IsUnopposed, Standings.Says, Standings.nothing_on_counts}
 
 module _ (state : AbstractState) (tx : ℕ) (op : ObjOp) (pages : map.FinMap nat_cmp Page) (transcripts : ℕ → Transcript) (h : PagesMeanHistory state) (is_open : IsOpenAt state tx) (forward : state.undoing tx ≡ false) (is : IsInRange (cell_of op))
     (in_range : (i : ℕ) (item : ObjOp × ObjReply) → Contains (transcripts i) item → IsInRange (cell_of item.0)) where

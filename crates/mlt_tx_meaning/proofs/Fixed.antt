@@ -1,13 +1,10 @@
 -- What the clean pages, and the history, fix: the base, and the reply to each operation.
 use Rattle.std.proofs.Common.{◌≡◌, ℕ, ◌<◌, ◌^◌, Option, Some, None, sym, subst, arith}
 use Rattle.mlt_tx_meaning.proofs.Names.{IsInRange, AccountOp, Open, Close, Deposit, Withdraw, Balance, CounterOp, Up, Down, Read, ObjOp, Account, Element, Counter, Size, ObjReply, AccountStep, Base, Step, empty_base, CellState, CellStep, AccountState, ElementState, CounterState, NoState, CounterStep, cell_of, Means, reply_of, record_after, state_of_record, base_functional, base_injective, IsHistory, no_lists, live_records, account_amount, amount_of, counter_amount, PagesMeanHistory, AbstractState, record_of}
-use Rattle.mlt_object_kinds.proofs.BaseLaws.{base_one_answer, step_to}
-use Rattle.mlt_object_kinds.specs.Bases.{with_state}
-use Rattle.mlt_object_base.proofs.Meanings.{one_meaning}
-use Rattle.mlt_object_base.proofs.OperationChanges.{tells_size}
+use Rattle.mlt_object_kinds.{proofs.BaseLaws.base_one_answer, proofs.BaseLaws.step_to, specs.Bases.with_state}
+use Rattle.mlt_object_base.proofs.{Meanings.one_meaning, OperationChanges.tells_size}
 use Rattle.mlt_order.proofs.Growing.{follow_to_one}
-use Rattle.mlt_tx_meaning.specs.Presences.{IsOpInRange}
-use Rattle.mlt_tx_meaning.proofs.Replies.{reply_steps}
+use Rattle.mlt_tx_meaning.{specs.Presences.IsOpInRange, proofs.Replies.reply_steps}
 
 -- an operation that is a step has an amount in range
 account_small : (op : AccountOp) (reply : ObjReply) (s t : Option ℕ) → AccountStep s op reply t → account_amount op < 2 ^ 64

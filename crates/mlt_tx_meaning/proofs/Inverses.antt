@@ -1,8 +1,7 @@
 -- The inverse of an operation takes the step of its cell back, by one of four kinds of change.
 use Rattle.std.proofs.Common.{◌≡◌, ℕ, ◌+◌, ◌-◌, ◌%◌, ◌^◌, ◌<◌, ◌≤◌, Bool, true, false, Option, Some, None, is_some, refl, sym, subst, ap, arith}
 use Rattle.mlt_tx_meaning.proofs.Names.{AccountOp, Open, Close, Deposit, Withdraw, CounterOp, Up, Down, Read, ElementOp, ObjOp, Account, Element, Counter, Size, ObjReply, AccountStep, IsAccount, max_balance, CellState, CellStep, AccountState, ElementState, CounterState, NoState, CounterStep, ElementStep, cell_of, RecChange, ToGhost, Plus, Minus, inverse_of, size_inverse_of, CanChange, HasWhatIsUndone, IsElementRecord, IsRecord, counter_of_record, record_after, state_of_record, Presence, Added, Removed, account_presence, element_presence, presence_of}
-use Rattle.mlt_object_base.specs.declared.record.RecChange.TheVariants.{Revive}
-use Rattle.mlt_object_base.specs.Effects.{account_inverse_of, counter_inverse_of, element_inverse_of}
+use Rattle.mlt_object_base.specs.{declared.record.RecChange.TheVariants.Revive, Effects.account_inverse_of, Effects.counter_inverse_of, Effects.element_inverse_of}
 use Rattle.mlt_tx_meaning.proofs.Replies.{ForResizes}
 
 -- ---- the step that is taken back

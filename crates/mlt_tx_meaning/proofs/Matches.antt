@@ -3,9 +3,7 @@ use Rattle.std.proofs.Common.{◌≡◌, ◌↔◌, ℕ, ◌<◌, true, List, []
 use Rattle.mlt_tx_meaning.proofs.Names.{nat_cmp_total, IsInRange, Page, Base, Step, empty_base, cell_of, ObjOp, ObjReply, IsHistory, Lists, after_entry, no_lists, Fresh, Running, Means, HasSizeToUndo, HasWhatIsUndone, base_functional, base_injective, live_records, KeepsPages, standing_of, IsFileWithGhosts, PagesMeanHistory, AbstractState, ledger_with, lists_in, record_of, size_record_of}
 use Rattle.std.specs.FinMap as map
 use Rattle.std.specs.FinSet as set
-use Rattle.mlt_order.specs.Histories.{Entry, MayCome, lists_of}
-use Rattle.mlt_order.proofs.Growing.{after_entries-push, follow_push}
-use Rattle.mlt_order.proofs.Keeping.{Kept, kept_by_history}
+use Rattle.mlt_order.{specs.Histories.Entry, specs.Histories.MayCome, specs.Histories.lists_of, proofs.Growing.after_entries-push, proofs.Growing.follow_push, proofs.Keeping.Kept, proofs.Keeping.kept_by_history}
 
 -- what lists ask of the rest
 pub record FitsLists (state : AbstractState) (lists : Lists (ObjOp × ObjReply)) : Type 0 where

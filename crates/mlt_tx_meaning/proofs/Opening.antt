@@ -4,11 +4,8 @@ use Rattle.mlt_tx_meaning.proofs.Names.{both_ways, key_number, Cell, Page, empty
 use Rattle.std.specs.FinMap as map
 use Rattle.std.specs.FinSet as set
 use Rattle.mlt_types.specs.declared.cell.Cell.TheVariants.{Account, Element, Counter, Size}
-use Rattle.mlt_object_kinds.specs.Bases.{counter_value, element_cmp}
-use Rattle.mlt_object_kinds.proofs.Sizes.{size_of_empty}
-use Rattle.mlt_hash_form.specs.Changes.{IsOpening}
-use Rattle.mlt_hash_form.proofs.MapChanges.{opening_map}
-use Rattle.mlt_hash_form.proofs.OpeningFile.{opening_has_form, opening_is_free}
+use Rattle.mlt_object_kinds.{specs.Bases.counter_value, specs.Bases.element_cmp, proofs.Sizes.size_of_empty}
+use Rattle.mlt_hash_form.{specs.Changes.IsOpening, proofs.MapChanges.opening_map, proofs.OpeningFile.opening_has_form, proofs.OpeningFile.opening_is_free}
 use Rattle.mlt_hash_ghosts.proofs.Transactions.{free_file}
 use Rattle.mlt_tx_meaning.specs.Events.{new_state}
 

@@ -3,17 +3,10 @@ use Rattle.std.proofs.Common.{◌≡◌, ℕ, List, [], ◌∷◌, ◌++◌, Con
 use Rattle.mlt_tx_meaning.proofs.Names.{cases_eq, IsInRange, Cell, Page, ObjOp, ObjReply, Base, Step, cell_of, RecChange, Means, changes_of, record_in, records_after, size_record_in, told_by, changes_on, HasSizeToUndo, HasWhatIsUndone, Lists, after_entry, Gains, table_with, changed, live_records, ChangesPages, presence_of, MayDo, PagesMeanHistory, AbstractState, lists_in, record_of}
 use Rattle.std.proofs.lemmas.List.Elements.{Contains-append_cases}
 use Rattle.std.specs.FinMap as map
-use Rattle.mlt_object_base.proofs.OperationChanges.{means_step}
-use Rattle.mlt_object_base.proofs.SizeRecords.{has_size_now, has_size_still}
+use Rattle.mlt_object_base.proofs.{OperationChanges.means_step, SizeRecords.has_size_now, SizeRecords.has_size_still}
 use Rattle.mlt_object_conflicts.proofs.BaseOrder.{did_may_come}
 use Rattle.mlt_order.specs.Histories.Entry.{Did}
-use Rattle.mlt_tx_meaning.specs.Events.{with_done}
-use Rattle.mlt_tx_meaning.proofs.DoneGhosts.{done_keeps_file}
-use Rattle.mlt_tx_meaning.proofs.Matches.{FitsLists, grown, in_range_there, runs}
-use Rattle.mlt_tx_meaning.proofs.RecordChanges.{records_become}
-use Rattle.mlt_tx_meaning.proofs.RecordsAfter.{KeepsRecord, counted_now, counted_still, done_keeps}
-use Rattle.mlt_tx_meaning.proofs.Replies.{IsCount, StepsByRecord, reply_steps}
-use Rattle.mlt_tx_meaning.proofs.Standings.{gain_says, may_do_unopposed}
+use Rattle.mlt_tx_meaning.{specs.Events.with_done, proofs.DoneGhosts.done_keeps_file, proofs.Matches.FitsLists, proofs.Matches.grown, proofs.Matches.in_range_there, proofs.Matches.runs, proofs.RecordChanges.records_become, proofs.RecordsAfter.KeepsRecord, proofs.RecordsAfter.counted_now, proofs.RecordsAfter.counted_still, proofs.RecordsAfter.done_keeps, proofs.Replies.IsCount, proofs.Replies.StepsByRecord, proofs.Replies.reply_steps, proofs.Standings.gain_says, proofs.Standings.may_do_unopposed}
 
 only_one : (x y : ObjOp × ObjReply) → Contains (x ∷ []) y → x ≡ y
 only_one x y h =

@@ -2,11 +2,7 @@
 use Rattle.std.proofs.Common.{◌≡◌, true, Some, refl, eq-eqb}
 use Rattle.mlt_tx_meaning.proofs.Names.{AccountOp, Open, Close, ElementOp, ObjOp, Account, Element, Counter, Size, ObjReply, cell_of, Presence, Added, Removed, account_presence, element_presence, presence_of}
 use Rattle.mlt_object_kinds.specs.declared.element.ElementOp.TheVariants.{Add, Remove}
-use Rattle.mlt_object_conflicts.specs.AccountTable.{account_class, account_marks}
-use Rattle.mlt_object_conflicts.specs.Clashes.{clashes}
-use Rattle.mlt_object_conflicts.specs.ElementTable.{element_class, element_marks}
-use Rattle.mlt_object_conflicts.specs.declared.accounts.AccountClass.{AccountClass}
-use Rattle.mlt_object_conflicts.specs.declared.elements.ElementClass.{ElementClass}
+use Rattle.mlt_object_conflicts.specs.{AccountTable.account_class, AccountTable.account_marks, Clashes.clashes, ElementTable.element_class, ElementTable.element_marks, declared.accounts.AccountClass.AccountClass, declared.elements.ElementClass.ElementClass}
 
 -- the classes of what adds and of what removes
 abbrev account_by : Presence → AccountClass

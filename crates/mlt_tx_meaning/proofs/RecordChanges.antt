@@ -4,10 +4,7 @@ use Rattle.std.specs.FinMap as map
 use Rattle.std.specs.FinSet as set
 use Rattle.mlt_tx_meaning.proofs.Names.{key_number, Cell, is_kept, Page, Live, RecChange, records_after, record_after, FilePages, GivesPseudokeys, HasForm, buckets_of, lead_of, look_up, live_records, value_after, Change, Performs, ChangesPages, LeavesChange, AbstractState, record_at}
 use Rattle.mlt_types.specs.Maps.{with_entry}
-use Rattle.mlt_hash_form.specs.Form.{HasSlot}
-use Rattle.mlt_hash_form.proofs.InPages.{same_option}
-use Rattle.mlt_hash_form.proofs.Lookup.{found}
-use Rattle.mlt_hash_form.proofs.MapChanges.{changed_map}
+use Rattle.mlt_hash_form.{specs.Form.HasSlot, proofs.InPages.same_option, proofs.Lookup.found, proofs.MapChanges.changed_map}
 use Rattle.mlt_hash_ghosts.specs.Moves.{MovesSlots}
 use Rattle.mlt_tx_meaning.proofs.Matches.{kept_pages}
 

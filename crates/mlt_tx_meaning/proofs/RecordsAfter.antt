@@ -3,8 +3,7 @@ use Rattle.std.proofs.Common.{◌≡◌, ℕ, List, [], ◌∷◌, ◌++◌, Opt
 use Rattle.std.specs.FinMap as map
 use Rattle.mlt_tx_meaning.proofs.Names.{IsInRange, Cell, Up, Down, Read, ObjOp, Account, Element, Counter, Size, ObjReply, cell_of, RecordChanges, RecChange, changes_on, own_change_on, size_change_on, changes_back, changes_of, record_in, records_after, size_record_in, told_by, HasWhatIsUndone, record_after, record_beside, Presence, presence_of}
 use Rattle.mlt_object_kinds.proofs.BaseLaws.{one_cell_or_two}
-use Rattle.mlt_object_base.proofs.Meanings.{changed, record_here}
-use Rattle.mlt_object_base.proofs.OperationChanges.{after_both, after_own}
+use Rattle.mlt_object_base.proofs.{Meanings.changed, Meanings.record_here, OperationChanges.after_both, OperationChanges.after_own}
 use Rattle.mlt_tx_meaning.proofs.Inverses.{by_inverse, by_size_inverse}
 use Rattle.mlt_tx_meaning.proofs.Replies.{IsCount, by_reply, by_size_change, count_says_nothing, reply_leaves_counters}
 

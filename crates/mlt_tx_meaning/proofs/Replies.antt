@@ -1,8 +1,7 @@
 -- What an operation is told of a record and changes of it: a step of its cell, by one of five kinds of change.
 use Rattle.std.proofs.Common.{◌≡◌, ℕ, ◌+◌, ◌-◌, ◌%◌, ◌^◌, ◌<◌, ◌≤◌, Bool, true, false, cond, Option, Some, None, is_some, nat_eq, nat_lt, refl, sym, subst, arith, eqb-true, ltb-true}
 use Rattle.mlt_tx_meaning.proofs.Names.{Cell, AccountOp, Open, Close, Deposit, Withdraw, Balance, CounterOp, Up, Down, Read, ElementOp, ObjOp, Account, Element, Counter, Size, ObjReply, AccountStep, IsAccount, max_balance, CellStep, CounterStep, ElementStep, cell_of, RecChange, ToGhost, Plus, Minus, reply_of, size_change_of, HasWhatIsUndone, IsElementRecord, IsRecord, counter_of_record, record_after, state_of_record, Presence, Added, Removed, account_amount, account_presence, amount_of, counter_amount, element_presence, presence_of}
-use Rattle.mlt_object_base.specs.declared.record.RecChange.TheVariants.{Add, Set}
-use Rattle.mlt_object_base.specs.Effects.{account_reply_of, counter_reply_of, element_reply_of, size_reply_of}
+use Rattle.mlt_object_base.specs.{declared.record.RecChange.TheVariants.Add, declared.record.RecChange.TheVariants.Set, Effects.account_reply_of, Effects.counter_reply_of, Effects.element_reply_of, Effects.size_reply_of}
 
 -- ---- the step of the cell
 

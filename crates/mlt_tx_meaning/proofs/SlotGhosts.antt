@@ -4,10 +4,8 @@ use Rattle.std.proofs.Common.{◌≡◌, ℕ, true, false, Option, Some, sym, su
 use Rattle.std.specs.FinMap as map
 use Rattle.mlt_tx_meaning.proofs.Names.{Page, Free, Ghost, key_number, Cell, RecChange, slot_of, bucket_of, buckets_of, slot_at, slot_after, value_after, StoodBefore, Change, Set, PagesMatchOperations, Ledger, NoOtherLast, last_by, Added, Appends, Removed, Standing, LeavesChange, IsOpenAt, IsFileWithGhosts, AbstractState, context_of, ledger_with}
 use Rattle.mlt_hash.specs.declared.pass.Change.TheVariants.{Put, Revive, Remove}
-use Rattle.mlt_hash_ghosts.specs.Events.{ChangesSlot}
+use Rattle.mlt_hash_ghosts.{specs.Events.ChangesSlot, proofs.Moves.moved, proofs.SlotTests.ghost_from}
 use Rattle.mlt_hash_ghosts.proofs.Changes.{ghost_addition_law, plain_put_law, plain_update_law, put_addition_law, removal_law, undone_addition_law, undone_removal_law}
-use Rattle.mlt_hash_ghosts.proofs.Moves.{moved}
-use Rattle.mlt_hash_ghosts.proofs.SlotTests.{ghost_from}
 
 module _ (state : AbstractState) (tx : ℕ) (cell : Cell) (change : RecChange) (pages : map.FinMap nat_cmp Page) (stood : Standing)
     (h : IsFileWithGhosts (ledger_with state stood) state.max_depth) (e : LeavesChange state tx cell change pages) where

@@ -2,10 +2,7 @@
 use Rattle.std.proofs.Common.{◌≡◌, ℕ, Option, Some, None, Contains, sym, ◌∙◌}
 use Rattle.mlt_tx_meaning.proofs.Names.{both_ways, IsInRange, key_number, Cell, ObjOp, ObjReply, Transcript, cell_of, Gains, Ledger, NoOtherLast, last_by, Appends, Presence, Standing, last_of, op_key, presence_of, standing_of, MayDo, PagesMeanHistory, AbstractState, ledger_of, lists_in}
 use Rattle.mlt_object_base.proofs.Meanings.{same_cell}
-use Rattle.mlt_tx_meaning.proofs.Matches.{lists_kept}
-use Rattle.mlt_tx_meaning.proofs.Opposites.{opposites_clash}
-use Rattle.mlt_tx_meaning.proofs.Replies.{IsCount, count_says_nothing}
-use Rattle.mlt_tx_meaning.proofs.Transcripts.{gains_none, gains_presence, last_from}
+use Rattle.mlt_tx_meaning.proofs.{Matches.lists_kept, Opposites.opposites_clash, Replies.IsCount, Replies.count_says_nothing, Transcripts.gains_none, Transcripts.gains_presence, Transcripts.last_from}
 
 -- one item more of transaction tx makes of what stands what it did to its key's presence
 abbrev pub Says : Option Presence → Standing → Standing → ℕ → ℕ → Type 0

@@ -2,15 +2,10 @@
 use Rattle.std.proofs.Common.{◌≡◌, ◌≢◌, ◌↔◌, ℕ, ◌+◌, Bool, true, false, List, [], Contains, refl, sym, subst, ap, ◌∙◌, inl, inr, arith}
 use Rattle.mlt_tx_meaning.proofs.Names.{both_ways, cases_eq, ObjOp, ObjReply, Lists, after_entry, Fresh, Running, table_with, contains-nothing, changed, PagesMatchOperations, Ledger, presences_on, standing_of, IsOpenAt, PagesMeanHistory, AbstractState, ledger_of, lists_in}
 use Rattle.std.specs.FinSet as set
-use Rattle.mlt_order.specs.Histories.{Stage, ended}
-use Rattle.mlt_order.specs.Histories.Entry.{Begun, Closed, Committed}
-use Rattle.mlt_order.specs.Histories.Stage.{Ended}
-use Rattle.mlt_order.specs.Tables.{SameElsewhere}
-use Rattle.mlt_hash_ghosts.specs.Ledgers.{IsOpenIn}
-use Rattle.mlt_hash_ghosts.proofs.Transactions.{begin_law, close_law}
-use Rattle.mlt_tx_meaning.specs.Events.{with_begun, with_closed, with_committed}
+use Rattle.mlt_order.specs.{Histories.Stage, Histories.ended, Histories.Entry.Begun, Histories.Entry.Closed, Histories.Entry.Committed, Histories.Stage.Ended, Tables.SameElsewhere}
+use Rattle.mlt_hash_ghosts.{specs.Ledgers.IsOpenIn, proofs.Transactions.begin_law, proofs.Transactions.close_law}
+use Rattle.mlt_tx_meaning.{specs.Events.with_begun, specs.Events.with_closed, specs.Events.with_committed, proofs.OpenNumbers.inserted_beside, proofs.OpenNumbers.inserted_here, proofs.OpenNumbers.removed_beside, proofs.OpenNumbers.removed_here}
 use Rattle.mlt_tx_meaning.proofs.Matches.{FitsLists, both, grown, lists_kept, runs}
-use Rattle.mlt_tx_meaning.proofs.OpenNumbers.{inserted_beside, inserted_here, removed_beside, removed_here}
 
 -- of who is not open nobody asks whether it is undone
 undoing_changed : (ledger : Ledger) (undoing : ℕ → Bool) → PagesMatchOperations ledger → ((t : ℕ) → IsOpenIn ledger t → undoing t ≡ false → ledger.undoing t ≡ false)

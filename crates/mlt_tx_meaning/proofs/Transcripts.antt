@@ -1,8 +1,7 @@
 -- What a transcript says of keys' presence, and how that changes with an item at its end.
 use Rattle.std.proofs.Common.{◌≡◌, ◌≢◌, ℕ, Option, Some, None, [], ◌∷◌, ◌++◌, refl, sym, subst, ap, ◌∙◌, inl, inr, Contains, ◌⊎◌, eq-eqb, ne_eqb, append-nil}
-use Rattle.std.specs.List.{cons_option, last_or}
+use Rattle.std.{specs.List.cons_option, specs.List.last_or, proofs.lemmas.List.Elements.filter_map-append}
 use Rattle.mlt_tx_meaning.proofs.Names.{cases_eq, Transcript, ObjOp, ObjReply, Gains, contains-first, Appends, Presence, last_of, op_key, presence_of, presences_on, standing_of}
-use Rattle.std.proofs.lemmas.List.Elements.{filter_map-append}
 use Rattle.mlt_order.proofs.RunLemmas.{contains-later}
 use Rattle.mlt_hash_ghosts.proofs.Lists.{last_append_from}
 use Rattle.mlt_tx_meaning.specs.Presences.{presence_at}

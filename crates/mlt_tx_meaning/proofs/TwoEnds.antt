@@ -3,22 +3,11 @@
 use Rattle.std.proofs.Common.{◌≡◌, ℕ, [], ◌∷◌, None, Option, Some, is_some, refl, sym, subst, ap, ◌∙◌, inl, inr, arith, ◌⊎◌, nat_cmp}
 use Rattle.std.specs.FinMap as map
 use Rattle.mlt_tx_meaning.proofs.Names.{IsInRange, key_number, Cell, Page, ElementOp, ObjOp, Account, Element, Counter, Size, ObjReply, cell_of, RecordChanges, RecChange, TakeBack, changes_on, inverse_of, reply_of, size_change_of, changes_back, changes_of, record_in, told_by, CanChange, CanResize, record_beside, FilePages, look_up, over, own_or_clean, live_records, View, Change, Presence, rearranged_moved, Performs, ChangesPages, KeepsPages, LeavesChange, MayUndo, PagesMeanHistory, AbstractState, context_of, record_at, record_of, size_record_of}
-use Rattle.mlt_object_base.specs.declared.request.Request.{Request}
-use Rattle.mlt_object_base.specs.declared.request.Request.TheVariants.{Do}
-use Rattle.mlt_object_base.specs.Requests.{decision, size_decision, size_key_of, target_of}
-use Rattle.mlt_object_base.proofs.SizeRecords.{can_resize, size_change_fits}
+use Rattle.mlt_object_base.{specs.declared.request.Request.Request, specs.declared.request.Request.TheVariants.Do, specs.Requests.decision, specs.Requests.size_decision, specs.Requests.size_key_of, specs.Requests.target_of, proofs.SizeRecords.can_resize, proofs.SizeRecords.size_change_fits}
 use Rattle.mlt_hash_form.specs.Held.{SeenPages}
-use Rattle.mlt_hash_access.specs.LocalStates.{LocalState}
-use Rattle.mlt_hash_access.specs.Views.{view_of}
-use Rattle.mlt_hash_access.proofs.Views.{seen_free}
-use Rattle.mlt_tx_two_records.specs.TwoRecordWalks.{CanDoBoth}
-use Rattle.mlt_tx_two_records.specs.Leaving.{LeavesAll, LeavesAsTold, LeavesBoth, LeavesRecord}
-use Rattle.mlt_tx_meaning.specs.Ends.{EndsWith, SeesHeldAlone}
-use Rattle.mlt_tx_meaning.proofs.RecordChanges.{records_become}
-use Rattle.mlt_tx_meaning.proofs.Replies.{by_reply, reply_steps}
-use Rattle.mlt_tx_meaning.proofs.Undoing.{inverse_can, undone_can_resize}
-use Rattle.mlt_tx_meaning.proofs.Walks.{ghost_there, record_looked_up}
-use Rattle.mlt_tx_meaning.proofs.WrittenPages.{written_over}
+use Rattle.mlt_hash_access.{specs.LocalStates.LocalState, specs.Views.view_of, proofs.Views.seen_free}
+use Rattle.mlt_tx_two_records.specs.{TwoRecordWalks.CanDoBoth, Leaving.LeavesAll, Leaving.LeavesAsTold, Leaving.LeavesBoth, Leaving.LeavesRecord}
+use Rattle.mlt_tx_meaning.{specs.Ends.EndsWith, specs.Ends.SeesHeldAlone, proofs.RecordChanges.records_become, proofs.Replies.by_reply, proofs.Replies.reply_steps, proofs.Undoing.inverse_can, proofs.Undoing.undone_can_resize, proofs.Walks.ghost_there, proofs.Walks.record_looked_up, proofs.WrittenPages.written_over}
 
 -- ---- what is left
 

@@ -3,22 +3,10 @@ use Rattle.std.proofs.Common.{◌≡◌, ◌≢◌, ℕ, Option, List, [], ◌�
 use Rattle.mlt_tx_meaning.proofs.Names.{cases_eq, IsInRange, Cell, Page, ObjOp, Account, Element, Counter, Size, ObjReply, Base, Step, empty_base, state_at, CellState, CellStep, cell_of, RecChange, Means, changes_back, record_in, records_after, size_record_in, changes_on, inverse_of, CanChange, HasSizeToUndo, HasWhatIsUndone, IsRecord, record_after, state_of_record, CanResize, TakeBack, base_functional, base_injective, Lists, after_entry, Gains, contains-first, changed, live_records, ChangesPages, presence_of, standing_of, MayUndo, PagesMeanHistory, AbstractState, lists_in, record_of, size_record_of}
 use Rattle.std.proofs.lemmas.List.Elements.{Contains-append_left, Contains-append_right}
 use Rattle.std.specs.FinMap as map
-use Rattle.mlt_object_kinds.proofs.Sizes.{size_after_step}
-use Rattle.mlt_object_kinds.specs.Bases.{TellsSize, size_at}
-use Rattle.mlt_object_base.proofs.OperationChanges.{means_step_back}
-use Rattle.mlt_object_base.proofs.SizeRecords.{can_resize_back, has_size_still_back}
-use Rattle.mlt_order.specs.Histories.{but_last}
-use Rattle.mlt_order.specs.Histories.Entry.{TookBack}
-use Rattle.mlt_order.proofs.Growing.{but_last-push}
-use Rattle.mlt_order.proofs.Keeping.{last_goes}
-use Rattle.mlt_tx_meaning.specs.Events.{with_undone}
-use Rattle.mlt_tx_meaning.proofs.Inverses.{GoesBack, inverse_back}
-use Rattle.mlt_tx_meaning.proofs.Matches.{FitsLists, grown, in_range_there}
-use Rattle.mlt_tx_meaning.proofs.RecordChanges.{records_become}
-use Rattle.mlt_tx_meaning.proofs.RecordsAfter.{KeepsRecord, counted_still, undone_keeps}
-use Rattle.mlt_tx_meaning.proofs.Replies.{IsCount}
-use Rattle.mlt_tx_meaning.proofs.Standings.{gain_says}
-use Rattle.mlt_tx_meaning.proofs.UndoneGhosts.{undone_keeps_file}
+use Rattle.mlt_object_kinds.{proofs.Sizes.size_after_step, specs.Bases.TellsSize, specs.Bases.size_at}
+use Rattle.mlt_object_base.proofs.{OperationChanges.means_step_back, SizeRecords.can_resize_back, SizeRecords.has_size_still_back}
+use Rattle.mlt_order.{specs.Histories.but_last, specs.Histories.Entry.TookBack, proofs.Growing.but_last-push, proofs.Keeping.last_goes}
+use Rattle.mlt_tx_meaning.{specs.Events.with_undone, proofs.Inverses.GoesBack, proofs.Inverses.inverse_back, proofs.Matches.FitsLists, proofs.Matches.grown, proofs.Matches.in_range_there, proofs.RecordChanges.records_become, proofs.RecordsAfter.KeepsRecord, proofs.RecordsAfter.counted_still, proofs.RecordsAfter.undone_keeps, proofs.Replies.IsCount, proofs.Standings.gain_says, proofs.UndoneGhosts.undone_keeps_file}
 
 -- a size is as it was told, since the step that tells it changes none
 told_after : (b c : Base) (item : ObjOp × ObjReply) → Step b item c → TellsSize c item

@@ -3,9 +3,7 @@ use Rattle.std.proofs.Common.{◌≡◌, ℕ, true, Option, sym, nat_cmp}
 use Rattle.std.specs.FinMap as map
 use Rattle.mlt_tx_meaning.proofs.Names.{IsInRange, Page, ObjOp, ObjReply, cell_of, RecChange, changes_on, inverse_of, own_change_on, size_change_on, size_inverse_of, changes_back, Presence, Standing, ChangesPages, op_key, presence_of, IsOpenAt, IsFileWithGhosts, PagesMeanHistory, AbstractState, ledger_with, stood_in}
 use Rattle.mlt_tx_meaning.proofs.ChangeGhosts.{KeepsResized, added_back, file_stays, lowered, raised, removed_back, resized}
-use Rattle.mlt_tx_meaning.proofs.Inverses.{by_inverse, by_size_inverse}
-use Rattle.mlt_tx_meaning.proofs.RecordChanges.{changes_split}
-use Rattle.mlt_tx_meaning.proofs.Standings.{Says}
+use Rattle.mlt_tx_meaning.proofs.{Inverses.by_inverse, Inverses.by_size_inverse, RecordChanges.changes_split, Standings.Says}
 
 module _ (state : AbstractState) (tx : ℕ) (item : ObjOp × ObjReply) (pages : map.FinMap nat_cmp Page) (standing : Standing) (h : PagesMeanHistory state) (is_open : IsOpenAt state tx) (backward : state.undoing tx ≡ true) (is : IsInRange (cell_of item.0)) where
   -- the record of its own cell

@@ -3,24 +3,12 @@ use Rattle.std.proofs.Common.{◌≡◌, ℕ, ◌+◌, true, List, Option, Some,
 use Rattle.std.specs.FinMap as map
 use Rattle.std.specs.FinSet as set
 use Rattle.mlt_tx_meaning.proofs.Names.{false≢true, key_number, Cell, is_kept, Page, Free, Live, Ghost, ObjOp, ObjReply, cell_of, RecChange, inverse_of, CanChange, bucket_of, buckets_of, lead_of, look_up, slot_at, Agrees, View, WalkFields, last_by, Presence, Removed, last_of, op_key, presence_of, presences_on, MayUndo, PagesMeanHistory, AbstractState, context_of, ledger_of, record_at}
-use Rattle.mlt_page.specs.Slots.{is_ghost_of}
-use Rattle.mlt_page.specs.Values.{BucketFields}
-use Rattle.mlt_page.specs.declared.slot.Slot.{Slot}
-use Rattle.mlt_hash_form.proofs.InPages.{led_at}
-use Rattle.mlt_hash_form.proofs.MapChanges.{map_is_look_up}
+use Rattle.mlt_page.specs.{Slots.is_ghost_of, Values.BucketFields, declared.slot.Slot.Slot}
+use Rattle.mlt_hash_form.proofs.{InPages.led_at, MapChanges.map_is_look_up}
 use Rattle.mlt_hash_split.specs.Rests.{KeepsNoMore}
-use Rattle.mlt_hash.specs.Changes.{HasOwnGhost, page_of}
-use Rattle.mlt_hash.specs.Walks.{HasRead, IsAtBucket, IsStanding, Stands}
-use Rattle.mlt_hash.specs.declared.pass.Phase.{Phase}
-use Rattle.mlt_hash.proofs.Laws.{path_taken}
-use Rattle.mlt_hash.proofs.Owners.{stands_still}
-use Rattle.mlt_hash.proofs.Passed.{read_at_bucket}
-use Rattle.mlt_hash.proofs.Standings.{found_still}
+use Rattle.mlt_hash.{specs.Changes.HasOwnGhost, specs.Changes.page_of, specs.Walks.HasRead, specs.Walks.IsAtBucket, specs.Walks.IsStanding, specs.Walks.Stands, specs.declared.pass.Phase.Phase, proofs.Laws.path_taken, proofs.Owners.stands_still, proofs.Passed.read_at_bucket, proofs.Standings.found_still}
 use Rattle.mlt_hash_ghosts.proofs.GhostLookup.{undone_found}
-use Rattle.mlt_tx_meaning.proofs.Inverses.{by_inverse}
-use Rattle.mlt_tx_meaning.proofs.OpenNumbers.{inserted_beside, removed_was}
-use Rattle.mlt_tx_meaning.proofs.Transcripts.{last_is}
-use Rattle.mlt_tx_meaning.proofs.Undoing.{inverse_can}
+use Rattle.mlt_tx_meaning.proofs.{Inverses.by_inverse, OpenNumbers.inserted_beside, OpenNumbers.removed_was, Transcripts.last_is, Undoing.inverse_can}
 
 -- ---- what is found
 

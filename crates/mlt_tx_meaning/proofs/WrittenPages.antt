@@ -2,8 +2,7 @@
 use Rattle.std.proofs.Common.{◌≡◌, ◌≢◌, ℕ, ◌||◌, false, true, List, [], ◌∷◌, None, Option, Some, is_some, refl, sym, ap, ◌∙◌, inl, inr, ne_eqb, nat_cmp}
 use Rattle.mlt_tx_meaning.proofs.Names.{cases_eq, false≢true, nat_cmp_total, unsigned_tied, Page, FilePages, over, own_or_clean}
 use Rattle.std.specs.FinMap as map
-use Rattle.std.specs.List.{list_any}
-use Rattle.std.specs.Ordering.{eq_by_cmp}
+use Rattle.std.specs.{List.list_any, Ordering.eq_by_cmp}
 use Rattle.mlt_object_kinds.proofs.BaseLaws.{entry_beside, entry_here}
 
 -- the map with what is written on this page, if it is

@@ -3,23 +3,14 @@ use Rattle.std.specs.Prelude.{ℕ, ◌≡◌, ◌≤◌, ◌<◌, ◌↔◌, Boo
 use Rattle.std.specs.Ordering.{nat_cmp}
 use Rattle.std.specs.FinMap as map
 use Rattle.std.specs.FinSet as set
-use Rattle.mlt_types.specs.Cells.{IsInRange}
-use Rattle.mlt_types.specs.declared.cell.Cell.{Cell}
+use Rattle.mlt_types.specs.{Cells.IsInRange, declared.cell.Cell.Cell}
 use Rattle.mlt_page.specs.declared.page.Page.{Page}
-use Rattle.mlt_object_kinds.specs.Bases.{Base, Step, empty_base}
-use Rattle.mlt_object_kinds.specs.Operations.{cell_of}
-use Rattle.mlt_object_kinds.specs.declared.operation.ObjOp.{ObjOp}
-use Rattle.mlt_object_kinds.specs.declared.operation.ObjReply.{ObjReply}
-use Rattle.mlt_order.specs.Histories.{Entry, IsHistory, Lists, lists_of}
-use Rattle.mlt_order.specs.Histories.Stage.{Fresh, Running}
-use Rattle.mlt_object_base.specs.Meaning.{Means, record_in, size_record_in}
-use Rattle.mlt_object_base.specs.Records.{HasSizeToUndo, HasWhatIsUndone}
-use Rattle.mlt_hash_form.specs.File.{GivesPseudokeys, HasForm, depth_of}
-use Rattle.mlt_hash_form.specs.Records.{live_records}
+use Rattle.mlt_object_kinds.specs.{Bases.Base, Bases.Step, Bases.empty_base, Operations.cell_of, declared.operation.ObjOp.ObjOp, declared.operation.ObjReply.ObjReply}
+use Rattle.mlt_order.specs.Histories.{Entry, IsHistory, Lists, lists_of, Stage.Fresh, Stage.Running}
+use Rattle.mlt_object_base.specs.{Meaning.Means, Meaning.record_in, Meaning.size_record_in, Records.HasSizeToUndo, Records.HasWhatIsUndone}
+use Rattle.mlt_hash_form.specs.{File.GivesPseudokeys, File.HasForm, File.depth_of, Records.live_records}
 use Rattle.mlt_hash.specs.Walks.{WalkContext, nothing_before}
-use Rattle.mlt_hash_ghosts.specs.Ghosts.{PagesMatchOperations}
-use Rattle.mlt_hash_ghosts.specs.Ledgers.{Ledger}
-use Rattle.mlt_hash_ghosts.specs.Operations.{Standing}
+use Rattle.mlt_hash_ghosts.specs.{Ghosts.PagesMatchOperations, Ledgers.Ledger, Operations.Standing}
 use Rattle.mlt_tx_meaning.specs.Presences.{standing_of}
 
 -- a hash file with its transactions, what these did, and the base that this leads to

@@ -2,18 +2,13 @@
 use Rattle.std.specs.Prelude.{ℕ, ◌≡◌, ◌≤◌, List, [], ◌∷◌, None}
 use Rattle.std.specs.Ordering.{nat_cmp}
 use Rattle.std.specs.FinMap as map
-use Rattle.mlt_types.specs.declared.cell.Cell.{Cell}
-use Rattle.mlt_types.specs.Cells.{key_number}
-use Rattle.mlt_page.specs.Slots.{is_kept}
-use Rattle.mlt_page.specs.declared.page.Page.{Page}
+use Rattle.mlt_types.specs.{declared.cell.Cell.Cell, Cells.key_number}
+use Rattle.mlt_page.specs.{Slots.is_kept, declared.page.Page.Page}
 use Rattle.mlt_object_base.specs.declared.record.RecChange.{RecChange}
 use Rattle.mlt_hash_form.specs.Changes.{ChangesRecord, IsAtHome, Spot, slot_of, slot_change}
-use Rattle.mlt_hash_form.specs.File.{FilePages, depth_of}
-use Rattle.mlt_hash_form.specs.Held.{over}
+use Rattle.mlt_hash_form.specs.{File.FilePages, File.depth_of, Held.over}
 use Rattle.mlt_hash_access.specs.Views.{View}
-use Rattle.mlt_hash.specs.Passes.{slot_after, value_after}
-use Rattle.mlt_hash.specs.Walks.{StoodBefore}
-use Rattle.mlt_hash.specs.declared.pass.Change.{Change}
+use Rattle.mlt_hash.specs.{Passes.slot_after, Passes.value_after, Walks.StoodBefore, declared.pass.Change.Change}
 use Rattle.mlt_hash_ghosts.specs.Moves.{MovesSlots}
 use Rattle.mlt_tx_two_records.specs.Performing.{Performs}
 use Rattle.mlt_tx_meaning.specs.AbstractStates.{AbstractState, context_of, record_at}

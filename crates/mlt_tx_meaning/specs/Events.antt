@@ -4,13 +4,10 @@ use Rattle.std.specs.Ordering.{nat_cmp}
 use Rattle.std.specs.FinMap as map
 use Rattle.std.specs.FinSet as set
 use Rattle.mlt_page.specs.declared.page.Page.{Page}
-use Rattle.mlt_object_kinds.specs.Bases.{Base, empty_base}
-use Rattle.mlt_object_kinds.specs.declared.operation.ObjOp.{ObjOp}
-use Rattle.mlt_object_kinds.specs.declared.operation.ObjReply.{ObjReply}
+use Rattle.mlt_object_kinds.specs.{Bases.Base, Bases.empty_base, declared.operation.ObjOp.ObjOp, declared.operation.ObjReply.ObjReply}
 use Rattle.mlt_order.specs.Histories.Entry.{Begun, Did, TookBack, Committed, Closed}
 use Rattle.mlt_object_conflicts.specs.Clashes.{clashes}
-use Rattle.mlt_tx_meaning.specs.Presences.{IsOpInRange}
-use Rattle.mlt_tx_meaning.specs.AbstractStates.{AbstractState, lists_in}
+use Rattle.mlt_tx_meaning.specs.{Presences.IsOpInRange, AbstractStates.AbstractState, AbstractStates.lists_in}
 
 -- nothing has begun
 abbrev pub new_state : (ℕ → ℕ) → ℕ → ℕ → map.FinMap nat_cmp Page → (ℕ → Bool) → AbstractState

@@ -1,17 +1,7 @@
 -- What operations with their replies did to the presence of their keys.
 use Rattle.std.specs.Prelude.{ℕ, ◌<◌, ◌^◌, ◌==◌, if◌then◌else◌, Option, Some, None, List, filter_map}
 use Rattle.mlt_types.specs.Cells.{IsInRange, key_number}
-use Rattle.mlt_object_kinds.specs.declared.account.AccountOp.{AccountOp}
-use Rattle.mlt_object_kinds.specs.declared.account.AccountOp.TheVariants.{Open, Close, Deposit, Withdraw}
-use Rattle.mlt_object_kinds.specs.declared.counter.CounterOp.{CounterOp}
-use Rattle.mlt_object_kinds.specs.declared.counter.CounterOp.TheVariants.{Up, Down, Read}
-use Rattle.mlt_object_kinds.specs.declared.element.ElementOp.{ElementOp}
-use Rattle.mlt_object_kinds.specs.declared.element.ElementOp.TheVariants.{Add, Remove}
-use Rattle.mlt_object_kinds.specs.declared.operation.ObjOp.{ObjOp}
-use Rattle.mlt_object_kinds.specs.declared.operation.ObjOp.TheVariants.{Account, Element, Counter, Size}
-use Rattle.mlt_object_kinds.specs.declared.operation.ObjReply.{ObjReply}
-use Rattle.mlt_object_kinds.specs.Bases.{Transcript}
-use Rattle.mlt_object_kinds.specs.Operations.{cell_of}
+use Rattle.mlt_object_kinds.specs.{declared.account.AccountOp.AccountOp, declared.account.AccountOp.TheVariants.Open, declared.account.AccountOp.TheVariants.Close, declared.account.AccountOp.TheVariants.Deposit, declared.account.AccountOp.TheVariants.Withdraw, declared.counter.CounterOp.CounterOp, declared.counter.CounterOp.TheVariants.Up, declared.counter.CounterOp.TheVariants.Down, declared.counter.CounterOp.TheVariants.Read, declared.element.ElementOp.ElementOp, declared.element.ElementOp.TheVariants.Add, declared.element.ElementOp.TheVariants.Remove, declared.operation.ObjOp.ObjOp, declared.operation.ObjOp.TheVariants.Account, declared.operation.ObjOp.TheVariants.Element, declared.operation.ObjOp.TheVariants.Counter, declared.operation.ObjOp.TheVariants.Size, declared.operation.ObjReply.ObjReply, Bases.Transcript, Operations.cell_of}
 use Rattle.mlt_hash_ghosts.specs.Operations.{Presence, Added, Removed, Standing}
 
 -- An account that was opened, or an element that was added, has a record since, and one that was closed or removed has

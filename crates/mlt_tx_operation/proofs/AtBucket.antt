@@ -5,13 +5,8 @@ use Rattle.mlt_hash_form.specs.File.{look_up}
 use Rattle.mlt_hash_access.proofs.Leaving.{leaves_it}
 use Rattle.mlt_hash.specs.Changes.{HasNoRoom, HasOwnGhost, MustWiden, NeedsSplit, WritesIfChanged}
 use Rattle.mlt_hash.proofs.Standings.{found_still}
-use Rattle.mlt_tx_operation.specs.AtBucket.{BeginsAgain, FindsNoRoom, SplitsInPass}
-use Rattle.mlt_tx_operation.specs.Walking.{IsTold}
-use Rattle.mlt_tx_two_records.specs.AtWideBuckets.{IsMade, OfAddition}
-use Rattle.mlt_tx_two_records.proofs.RollingBack.{starts_again}
-use Rattle.mlt_tx_two_records.proofs.WideOwn.{absent_at}
-use Rattle.mlt_tx_two_records.proofs.WideSize.{found_clean}
-use Rattle.mlt_tx_operation.proofs.Deciding.{changes_exclusively, never_revives}
+use Rattle.mlt_tx_operation.{specs.AtBucket.BeginsAgain, specs.AtBucket.FindsNoRoom, specs.AtBucket.SplitsInPass, specs.Walking.IsTold, proofs.Deciding.changes_exclusively, proofs.Deciding.never_revives}
+use Rattle.mlt_tx_two_records.{specs.AtWideBuckets.IsMade, specs.AtWideBuckets.OfAddition, proofs.RollingBack.starts_again, proofs.WideOwn.absent_at, proofs.WideSize.found_clean}
 
 -- what was decided, with the change that it asks for
 pub decided_change : (request : Request) (found : Option ℕ) (told : ObjReply × Option RecChange) (change : Option RecChange) → told ≡ decision request found → told.1 ≡ change → decision request found ≡ (told.0, change)

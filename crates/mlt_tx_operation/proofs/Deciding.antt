@@ -1,13 +1,9 @@
 -- What an operation may decide on
 use Rattle.std.proofs.Common.{◌≡◌, ℕ, ◌+◌, ◌-◌, Bool, true, false, nat_lt, ◌==◌, cond, Option, None, Some, refl, sym, ap, ◌∙◌}
 use Rattle.mlt_tx_operation.proofs.Names.{false≢true, Mode, Shared, Exclusive, ElementOp, ObjOp, Element, ObjReply, RecChange, Revive}
-use Rattle.mlt_object_kinds.specs.declared.account.AccountOp.{AccountOp}
+use Rattle.mlt_object_kinds.specs.{declared.account.AccountOp.AccountOp, declared.counter.CounterOp.TheVariants.Up, declared.counter.CounterOp.TheVariants.Down, declared.counter.CounterOp.TheVariants.Read, declared.operation.ObjOp.TheVariants.Account, declared.operation.ObjOp.TheVariants.Counter, declared.operation.ObjOp.TheVariants.Size, Accounts.max_balance}
 use Rattle.mlt_object_kinds.specs.declared.account.AccountOp.TheVariants.{Open, Close, Deposit, Withdraw, Balance}
-use Rattle.mlt_object_kinds.specs.declared.counter.CounterOp.TheVariants.{Up, Down, Read}
-use Rattle.mlt_object_kinds.specs.declared.operation.ObjOp.TheVariants.{Account, Counter, Size}
-use Rattle.mlt_object_kinds.specs.Accounts.{max_balance}
-use Rattle.mlt_object_base.specs.declared.record.RecChange.TheVariants.{Set, ToGhost}
-use Rattle.mlt_object_base.specs.Effects.{account_reply_of, mode_of, reply_of}
+use Rattle.mlt_object_base.specs.{declared.record.RecChange.TheVariants.Set, declared.record.RecChange.TheVariants.ToGhost, Effects.account_reply_of, Effects.mode_of, Effects.reply_of}
 use Rattle.mlt_tx_two_records.proofs.Asking.{is_revival}
 
 either : (b : Bool) (x y : ObjReply × Option RecChange) → is_revival x.1 ≡ false → is_revival y.1 ≡ false → is_revival (cond b x y).1 ≡ false

@@ -2,13 +2,9 @@
 use Rattle.std.proofs.Common.{◌≡◌, ℕ, false, Option, None, Some, is_some, unwrap_or, refl, sym, ap, ◌∙◌, inl, inr, arith, nat_cmp}
 use Rattle.std.specs.FinMap as map
 use Rattle.mlt_tx_operation.proofs.Names.{false≢true, Mode, Exclusive, Shared, can_write, pages_of, released, NobodyHolds}
-use Rattle.std.proofs.lemmas.Bool.{cases_eq}
-use Rattle.std.proofs.lemmas.Bool.Decides.{nat_tests}
+use Rattle.std.proofs.lemmas.Bool.{cases_eq, Decides.nat_tests}
 use Rattle.mlt_page_subtx.proofs.ImageLaws.{not_true}
-use Rattle.mlt_page_locks.specs.LockTables.{LockTable, Modes, can_read, is_holder}
-use Rattle.mlt_page_locks.specs.Requests.{IsNobody, conflicts, granted, with_page}
-use Rattle.mlt_page_locks.proofs.LockLaws.{can_read-granted, conflicts-exclusive, conflicts-shared, writer_reads}
-use Rattle.mlt_page_locks.proofs.Maps.{get_inserted, get_removed, same_entries}
+use Rattle.mlt_page_locks.{specs.LockTables.LockTable, specs.LockTables.Modes, specs.LockTables.can_read, specs.LockTables.is_holder, specs.Requests.IsNobody, specs.Requests.conflicts, specs.Requests.granted, specs.Requests.with_page, proofs.LockLaws.can_read-granted, proofs.LockLaws.conflicts-exclusive, proofs.LockLaws.conflicts-shared, proofs.LockLaws.writer_reads, proofs.Maps.get_inserted, proofs.Maps.get_removed, proofs.Maps.same_entries}
 
 -- nobody but tx reads a page
 abbrev pub NoOtherReads : ℕ → LockTable → Type 0

@@ -2,8 +2,7 @@
 use Rattle.std.proofs.Common.{◌≡◌, ◌+◌, ◌-◌, false, None, Option, Some, refl, sym, ap, subst, ◌∙◌, inl, inr, arith}
 use Rattle.mlt_tx_operation.proofs.Names.{ObjReply, RecChange, Add, decision, size_key_of, target_of, LocalState, Leaves, View, view_of, WalkContext, HasRead, IsChanged, Stands, one_key, page_of, IsUnderWay, TellsAt, IsSameWalk, steps_to_bucket, bucket_depth, directory_depth, steps_to_put_at, WalkAnswer, Change, Phase, read_of, Request, StepsOn, on_one, FitsPhase, HasPerformed, IsToAdd, MayWalkOn, WalkingFields, steps_of_walk, AsksToAdd, steps_to_change, one_step_turns}
 use Rattle.mlt_hash.proofs.StepsLeft.{put_is_left}
-use Rattle.mlt_tx_two_records.specs.WidePass.{PutsThen}
-use Rattle.mlt_tx_two_records.proofs.WideGoing.{goes_further, puts_behind, puts_still}
+use Rattle.mlt_tx_two_records.{specs.WidePass.PutsThen, proofs.WideGoing.goes_further, proofs.WideGoing.puts_behind, proofs.WideGoing.puts_still}
 
 -- what its walk is to put is what it asks to add
 puts_asked : (p : Phase) (context : WalkContext) (o : WalkingFields) (view : View) → FitsPhase p (one_key context) o view → PutsThen p (AsksToAdd o.request)

@@ -3,15 +3,10 @@ use Rattle.std.proofs.Common.{ℕ, ◌≡◌, ◌≤◌, ◌<◌, ◌+◌, ◌*�
 use Rattle.std.proofs.lemmas.Bool.{cases_lt, cond-false, cond-true}
 use Rattle.mlt_tx_operation.proofs.Names.{ObjReply, Request, LocalState, View, view_of, page_of, next_of, steps_to_bucket, bucket_depth, directory_depth, steps_to_put_at, WalkContext, Stands, WalkFields, one_key, Pass, Phase, put_on_way, StepAnswer, steps_of_two_records, TwoRecordWalk, First, Wide, WideStage, AccessPath, One, Two, HasToRestart, TellsOfStep, most_steps_by, OperatesBy, OperationFields, steps_of_walk}
 use Rattle.mlt_hash_form.specs.File.{header_of}
-use Rattle.mlt_hash.specs.Passes.{IsNextPass}
-use Rattle.mlt_hash.specs.StepsLeft.{steps_of_splits}
-use Rattle.mlt_hash.specs.Walks.{IsAdding, IsStanding}
-use Rattle.mlt_tx_two_records.specs.TwoRecordWalks.{most_to_change, most_to_put}
+use Rattle.mlt_hash.specs.{Passes.IsNextPass, StepsLeft.steps_of_splits, Walks.IsAdding, Walks.IsStanding}
+use Rattle.mlt_tx_two_records.{specs.TwoRecordWalks.most_to_change, specs.TwoRecordWalks.most_to_put, specs.WalkSteps.GoesNearer, proofs.SplitSteps.few_splits}
 use Rattle.mlt_tx_operation.specs.Answers.{TwoRecordRestarts, PutsBehindSplits, RestartsBy, SplitsBy, StepsBy, WalkBeginsToSplit, WalkGoesOn, WalkRestarts}
-use Rattle.mlt_tx_two_records.specs.WalkSteps.{GoesNearer}
-use Rattle.mlt_tx_operation.specs.MostSteps.{most_from_bucket, most_steps, most_steps_of_walk, passes_after}
-use Rattle.mlt_tx_operation.specs.Operating.{IsInFirst, steps_by}
-use Rattle.mlt_tx_two_records.proofs.SplitSteps.{few_splits}
+use Rattle.mlt_tx_operation.specs.{MostSteps.most_from_bucket, MostSteps.most_steps, MostSteps.most_steps_of_walk, MostSteps.passes_after, Operating.IsInFirst, Operating.steps_by}
 
 from_bucket : (root : ℕ) (walk : WalkFields) (view : View) → steps_to_bucket walk.phase ≡ 0 → most_steps_of_walk root walk view ≡ steps_of_walk root walk view
 from_bucket root walk view there = cond-true (nat_eq (steps_to_bucket walk.phase) 0) _ _ (eq-eqb _ _ there)

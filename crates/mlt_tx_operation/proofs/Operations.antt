@@ -2,19 +2,15 @@
 use Rattle.std.proofs.Common.{◌≡◌, ◌≢◌, ℕ, Option, None, Some, true, refl, subst, ◌∙◌, arith, nat_cmp}
 use Rattle.std.specs.FinMap as map
 use Rattle.std.specs.FinSet as set
-use Rattle.mlt_types.specs.Cells.{IsInRange, key_number}
-use Rattle.mlt_types.specs.declared.cell.Cell.{Cell}
+use Rattle.mlt_types.specs.{Cells.IsInRange, Cells.key_number, declared.cell.Cell.Cell}
 use Rattle.mlt_tx_operation.proofs.Names.{ElementOp, Element, ObjReply, Request, Do, TakeBack, size_key_of, target_of, pages_of, Agrees, nothing_written, LocalState, View, view_of, WalkContext, one_key, Phase, TwoRecordWalk, First, Owing, Wide, WideStage, AccessPath, One, Two, MayOperate, OperatesBy, OperationFields, access_path_for, on_one, on_two, started_for, FitsPhase, MayWalkOn, WalkingFields}
 use Rattle.mlt_object_kinds.specs.Operations.{cell_of}
 use Rattle.mlt_object_base.proofs.Meanings.{same_cell}
 use Rattle.mlt_hash_form.specs.File.{FilePages, HasForm}
 use Rattle.mlt_hash_split.specs.Rests.{KeepsNoMore}
 use Rattle.mlt_hash_pair.proofs.Laws.{starts as pair_starts}
-use Rattle.mlt_hash.proofs.Laws.{at_start}
-use Rattle.mlt_hash.proofs.Owners.{stands_still}
-use Rattle.mlt_hash.proofs.Passed.{read_as}
-use Rattle.mlt_tx_two_records.specs.TwoRecordWalks.{MayGoOn, Stands}
-use Rattle.mlt_tx_two_records.proofs.TwoRecordLaws.{two_records_still, told_still}
+use Rattle.mlt_hash.proofs.{Laws.at_start, Owners.stands_still, Passed.read_as}
+use Rattle.mlt_tx_two_records.{specs.TwoRecordWalks.MayGoOn, specs.TwoRecordWalks.Stands, proofs.TwoRecordLaws.two_records_still, proofs.TwoRecordLaws.told_still}
 use Rattle.mlt_tx_operation.specs.Operating.{CanDoBy, IsOperating, StandsOrTold}
 
 -- ---- the start

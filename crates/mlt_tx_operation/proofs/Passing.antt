@@ -2,24 +2,11 @@
 use Rattle.std.proofs.Common.{◌≡◌, ℕ, false, true, List, Option, None, Some, is_some, refl, sym, ap, subst, ◌∙◌, inl, inr, arith, IsSome}
 use Rattle.std.specs.FinMap as map
 use Rattle.mlt_tx_operation.proofs.Names.{false≢true, Mode, Shared, is_live_of, Live, Page, BucketFields, ObjOp, ObjReply, RecChange, Request, Do, decision, size_key_of, target_of, page_at, can_write, released, IsPath, value_in, SetsFirst, WriteFields, LocalState, Leaves, view_of, nothing_written, MayChange, HasFound, WalkContext, WalkFields, one_key, WalkAnswer, Change, Phase, Performs, StepAnswer, StepsOn, Finishes, MayDecide, MayOperate, OperationFields, access_path_for, on_one, started_for, CanTakeBackOne, MayWalkOn, WalkingFields, walking, NobodyHolds, PassesFast, store_after}
-use Rattle.mlt_page.specs.Pages.{page_with_slot}
-use Rattle.mlt_page.specs.Values.{HeadFields}
-use Rattle.mlt_hash_form.specs.File.{bucket_of, dir_of, row_of}
-use Rattle.mlt_hash_form.specs.Held.{own_or_clean}
-use Rattle.mlt_hash_access.specs.PageSteps.{LocksPage, WritesHeldPage, WritesHeldSlot}
-use Rattle.mlt_hash_access.specs.Views.{ReadsHeldBucket, ReadsPage}
-use Rattle.mlt_hash_access.proofs.Leaving.{leaves_by_locking, leaves_by_writing}
-use Rattle.mlt_hash_access.proofs.LocalStates.{locked, written}
-use Rattle.mlt_hash_access.proofs.Results.{bucket_there}
-use Rattle.mlt_hash_access.proofs.Views.{lock_reads}
-use Rattle.mlt_hash.specs.Steps.{GoesOn as WalkGoesOn}
-use Rattle.mlt_hash.proofs.InPlace.{ReadsBucket, reads_bucket, record_may_write, update_tells}
-use Rattle.mlt_hash.proofs.Paths.{arrived, headed, placed}
-use Rattle.mlt_tx_operation.specs.Walking.{walk_for}
-use Rattle.mlt_tx_operation.proofs.AtBucket.{change_finishes, may_change, told_finishes}
-use Rattle.mlt_tx_operation.proofs.Going.{goes_on}
-use Rattle.mlt_tx_operation.proofs.Operations.{may_walk_on}
-use Rattle.mlt_tx_operation.proofs.Telling.{found_tells, may_decide}
+use Rattle.mlt_page.specs.{Pages.page_with_slot, Values.HeadFields}
+use Rattle.mlt_hash_form.specs.{File.bucket_of, File.dir_of, File.row_of, Held.own_or_clean}
+use Rattle.mlt_hash_access.{specs.PageSteps.LocksPage, specs.PageSteps.WritesHeldPage, specs.PageSteps.WritesHeldSlot, specs.Views.ReadsHeldBucket, specs.Views.ReadsPage, proofs.Leaving.leaves_by_locking, proofs.Leaving.leaves_by_writing, proofs.LocalStates.locked, proofs.LocalStates.written, proofs.Results.bucket_there, proofs.Views.lock_reads}
+use Rattle.mlt_hash.{specs.Steps.GoesOn as WalkGoesOn, proofs.InPlace.ReadsBucket, proofs.InPlace.reads_bucket, proofs.InPlace.record_may_write, proofs.InPlace.update_tells, proofs.Paths.arrived, proofs.Paths.headed, proofs.Paths.placed}
+use Rattle.mlt_tx_operation.{specs.Walking.walk_for, proofs.AtBucket.change_finishes, proofs.AtBucket.may_change, proofs.AtBucket.told_finishes, proofs.Going.goes_on, proofs.Operations.may_walk_on, proofs.Telling.found_tells, proofs.Telling.may_decide}
 use Rattle.mlt_tx_operation.proofs.Free.{NoOtherReads, nobody_reads, nobody_stands, nobody_still, released-granted, released_nothing}
 
 -- no key of a size

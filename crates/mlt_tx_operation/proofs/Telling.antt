@@ -2,14 +2,10 @@
 use Rattle.std.proofs.Common.{◌≡◌, ℕ, ◌+◌, ◌↔◌, None, Option, refl, sym, ap, subst, ◌∙◌, inl, inr, arith}
 use Rattle.mlt_tx_operation.proofs.Names.{Mode, Refusal, Page, size_key_of, target_of, Agrees, LocalState, Leaves, IsRolledBack, TakesTurn, View, view_of, agrees, WalkContext, Stands, WalkFields, one_key, page_of, TellsAt, HasFound, steps_to_bucket, WalkAnswer, Pass, Phase, put_on_way, StepAnswer, One, Request, Do, TakeBack, IsRefused, TellsOfStep, Waits, AsksToAdd, steps_to_change, one_step_turns, IsThereFor, MayDecide, TellsAtBucket, on_one, CanTakeBackOne, MayWalkOn, WalkingFields}
 use Rattle.mlt_hash_access.specs.PageSteps.{HasNoPageLeft, LocksAtMost}
-use Rattle.mlt_hash.specs.Walks.{IsAtBucket}
-use Rattle.mlt_hash.specs.Splitting.{HasToMake}
-use Rattle.mlt_hash.specs.Steps.{GoesOn}
-use Rattle.mlt_tx_operation.specs.Answers.{CauseAtOne}
-use Rattle.mlt_tx_two_records.specs.WalkSteps.{ReachesBucket}
+use Rattle.mlt_hash.specs.{Walks.IsAtBucket, Splitting.HasToMake, Steps.GoesOn}
+use Rattle.mlt_tx_operation.{specs.Answers.CauseAtOne, proofs.Going.same_target}
+use Rattle.mlt_tx_two_records.{specs.WalkSteps.ReachesBucket, proofs.WideTurns.lock_and_write_turn, proofs.WideTurns.walks_on}
 use Rattle.mlt_tx_two_records.proofs.WideTelling.{IsWhy, found_by_path, reaches, refused as why_refused, waits as walk_waits, was_last}
-use Rattle.mlt_tx_two_records.proofs.WideTurns.{lock_and_write_turn, walks_on}
-use Rattle.mlt_tx_operation.proofs.Going.{same_target}
 
 -- **Where its walk waits, so does the operation.**
 pub waits : (context : WalkContext) (old new : LocalState) (before after : WalkingFields) (page by : ℕ)

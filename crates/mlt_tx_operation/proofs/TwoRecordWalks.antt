@@ -2,9 +2,7 @@
 use Rattle.std.proofs.Common.{ℕ, ◌<◌, None, Some, refl, ap, inl, inr}
 use Rattle.mlt_tx_operation.proofs.Names.{Refusal, ElementOp, Element, ObjReply, Request, Do, LocalState, TakesTurn, view_of, WalkContext, WalkFields, one_key, steps_of_two_records, AsksToAdd, TwoRecordWalk, First, Owing, Wide, WideStage, StepAnswer, IsRefused, StepsOn, TellsOfStep, Waits, on_two}
 use Rattle.mlt_hash_pair.specs.Pairs.{PairFields, mode_next}
-use Rattle.mlt_tx_two_records.specs.Answers.{GoesOnBy, RefusedBy, TellsLast, WaitsBy}
-use Rattle.mlt_tx_two_records.specs.TwoRecordWalks.{IsFirst, IsTold, Stands}
-use Rattle.mlt_tx_two_records.specs.Performing.{AddsElement}
+use Rattle.mlt_tx_two_records.specs.{Answers.GoesOnBy, Answers.RefusedBy, Answers.TellsLast, Answers.WaitsBy, TwoRecordWalks.IsFirst, TwoRecordWalks.IsTold, TwoRecordWalks.Stands, Performing.AddsElement}
 
 -- what adds an element asks for a record where there is none
 asks_to_add : (request : Request) → AddsElement request → (value : ℕ) × AsksToAdd request value

@@ -1,34 +1,16 @@
 -- What a step of an operation answers
 use Rattle.std.specs.Prelude.{ℕ, ◌≡◌, ◌<◌, ◌⊎◌, false, Option, None, Some}
-use Rattle.mlt_types.specs.declared.mode.Mode.{Mode}
-use Rattle.mlt_types.specs.declared.refusal.Refusal.{Refusal}
+use Rattle.mlt_types.specs.declared.{mode.Mode.Mode, refusal.Refusal.Refusal}
 use Rattle.mlt_object_kinds.specs.declared.operation.ObjReply.{ObjReply}
-use Rattle.mlt_object_base.specs.declared.request.Request.{Request}
-use Rattle.mlt_object_base.specs.Requests.{target_of}
+use Rattle.mlt_object_base.specs.{declared.request.Request.Request, Requests.target_of}
 use Rattle.mlt_page_locks.specs.Requests.{IsLowest, conflicts}
-use Rattle.mlt_hash_access.specs.LocalStates.{LocalState}
-use Rattle.mlt_hash_access.specs.PageTurns.{TakesTurn, TurnsBack}
-use Rattle.mlt_hash_access.specs.Views.{View, rebased, view_of}
+use Rattle.mlt_hash_access.specs.{LocalStates.LocalState, PageTurns.TakesTurn, PageTurns.TurnsBack, Views.View, Views.rebased, Views.view_of}
 use Rattle.mlt_hash_pair.specs.Pairs.{mode_next, page_next}
 use Rattle.mlt_hash.specs.Walks.{WalkContext, Before, WalkFields, context_after, one_key}
-use Rattle.mlt_hash.specs.Passes.{next_of}
-use Rattle.mlt_hash.specs.Steps.{steps_to_bucket}
-use Rattle.mlt_hash.specs.Changes.{MustWiden, NeedsSplit}
-use Rattle.mlt_hash.specs.declared.pass.Change.{Change}
-use Rattle.mlt_hash.specs.declared.pass.Pass.{Pass}
-use Rattle.mlt_hash.specs.declared.pass.Phase.{Phase}
-use Rattle.mlt_tx_two_records.specs.Answers.{GoesOnBy, TellsLast}
-use Rattle.mlt_tx_two_records.specs.FirstPass.{FindsNoRoom}
-use Rattle.mlt_tx_two_records.specs.Performing.{AsksToAdd}
+use Rattle.mlt_hash.specs.{Passes.next_of, Steps.steps_to_bucket, Changes.MustWiden, Changes.NeedsSplit, declared.pass.Change.Change, declared.pass.Pass.Pass, declared.pass.Phase.Phase}
+use Rattle.mlt_tx_two_records.specs.{Answers.GoesOnBy, Answers.TellsLast, FirstPass.FindsNoRoom, Performing.AsksToAdd, WidePass.CauseAtOwn, WidePass.CauseAtSize, WidePass.HasPutOwn, WidePass.wide_to, declared.two_records.TwoRecordWalk.TwoRecordWalk, declared.two_records.TwoRecordWalk.TheVariants.First, declared.two_records.TwoRecordWalk.TheVariants.Owing, declared.two_records.TwoRecordWalk.TheVariants.Wide, declared.two_records.WideStage.WideStage}
 use Rattle.mlt_tx_two_records.specs.WalkSteps.{AsksForAt, BeginsToSplit, GoesNearer, LacksPage, LacksRoom, ReachesBucket}
-use Rattle.mlt_tx_two_records.specs.WidePass.{CauseAtOwn, CauseAtSize, HasPutOwn, wide_to}
-use Rattle.mlt_tx_two_records.specs.declared.two_records.TwoRecordWalk.{TwoRecordWalk}
-use Rattle.mlt_tx_two_records.specs.declared.two_records.TwoRecordWalk.TheVariants.{First, Owing, Wide}
-use Rattle.mlt_tx_two_records.specs.declared.two_records.WideStage.{WideStage}
-use Rattle.mlt_tx_operation.specs.declared.answer.StepAnswer.{StepAnswer}
-use Rattle.mlt_tx_operation.specs.declared.access_path.AccessPath.{AccessPath}
-use Rattle.mlt_tx_operation.specs.declared.access_path.AccessPath.TheVariants.{One, Two}
-use Rattle.mlt_tx_operation.specs.Operating.{IsInFirst, IsOperating, OperationFields, steps_left}
+use Rattle.mlt_tx_operation.specs.{declared.answer.StepAnswer.StepAnswer, declared.access_path.AccessPath.AccessPath, declared.access_path.AccessPath.TheVariants.One, declared.access_path.AccessPath.TheVariants.Two, Operating.IsInFirst, Operating.IsOperating, Operating.OperationFields, Operating.steps_left}
 
 -- ---- on one record
 

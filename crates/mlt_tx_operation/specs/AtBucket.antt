@@ -1,23 +1,10 @@
 -- What an operation on one record does once its walk has reached its bucket
 use Rattle.std.specs.Prelude.{ℕ, ◌≡◌, ◌⊎◌, Option, None}
 use Rattle.mlt_types.specs.declared.refusal.Refusal.{Refusal}
-use Rattle.mlt_object_base.specs.Effects.{inverse_of}
-use Rattle.mlt_object_base.specs.Requests.{size_key_of, target_of}
-use Rattle.mlt_hash_access.specs.LocalStates.{LocalState}
-use Rattle.mlt_hash_access.specs.PageSteps.{Leaves, WritesAtMost}
-use Rattle.mlt_hash_access.specs.PageTurns.{IsRolledBack}
-use Rattle.mlt_hash_access.specs.Views.{View, view_of}
-use Rattle.mlt_hash.specs.Walks.{WalkContext, MayWalk, WalkFields}
-use Rattle.mlt_hash.specs.Passes.{next_of}
-use Rattle.mlt_hash.specs.Steps.{HasFound}
-use Rattle.mlt_hash.specs.Changes.{HasNoRoom, NeedsSplit, page_of}
-use Rattle.mlt_hash.specs.declared.pass.Pass.{Pass}
-use Rattle.mlt_hash.specs.declared.pass.Phase.{Phase}
-use Rattle.mlt_object_base.specs.declared.request.Request.{Request}
-use Rattle.mlt_object_base.specs.declared.request.Request.TheVariants.{Do, TakeBack}
-use Rattle.mlt_tx_operation.specs.declared.answer.StepAnswer.{StepAnswer}
-use Rattle.mlt_tx_operation.specs.Answers.{HasToRestart}
-use Rattle.mlt_tx_operation.specs.Walking.{IsThere, IsWalking, WalkingFields, steps_of_walk}
+use Rattle.mlt_object_base.specs.{Effects.inverse_of, Requests.size_key_of, Requests.target_of, declared.request.Request.Request, declared.request.Request.TheVariants.Do, declared.request.Request.TheVariants.TakeBack}
+use Rattle.mlt_hash_access.specs.{LocalStates.LocalState, PageSteps.Leaves, PageSteps.WritesAtMost, PageTurns.IsRolledBack, Views.View, Views.view_of}
+use Rattle.mlt_hash.specs.{Walks.WalkContext, Walks.MayWalk, Walks.WalkFields, Passes.next_of, Steps.HasFound, Changes.HasNoRoom, Changes.NeedsSplit, Changes.page_of, declared.pass.Pass.Pass, declared.pass.Phase.Phase}
+use Rattle.mlt_tx_operation.specs.{declared.answer.StepAnswer.StepAnswer, Answers.HasToRestart, Walking.IsThere, Walking.IsWalking, Walking.WalkingFields, Walking.steps_of_walk}
 use Rattle.mlt_tx_two_records.specs.Performing.{AsksToAdd}
 
 -- what is found is what the inverse needs, where something is to be taken back: the record, or the ghost

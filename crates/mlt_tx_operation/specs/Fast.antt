@@ -2,17 +2,12 @@
 use Rattle.std.specs.Prelude.{ℕ, ◌≡◌, ◌<◌, false, Option, None, Some}
 use Rattle.std.specs.FinMap as map
 use Rattle.mlt_object_kinds.specs.declared.operation.ObjReply.{ObjReply}
-use Rattle.mlt_page.specs.Pages.{page_with_slot}
-use Rattle.mlt_page.specs.Stores.{HasBucketAt, PageStore, page_at}
-use Rattle.mlt_page_locks.specs.LockTables.{LockTable, is_holder}
-use Rattle.mlt_page_locks.specs.Requests.{released}
-use Rattle.mlt_hash_form.specs.File.{bucket_of}
-use Rattle.mlt_hash_form.specs.Plans.{WriteFields}
+use Rattle.mlt_page.specs.{Pages.page_with_slot, Stores.HasBucketAt, Stores.PageStore, Stores.page_at}
+use Rattle.mlt_page_locks.specs.{LockTables.LockTable, LockTables.is_holder, Requests.released}
+use Rattle.mlt_hash_form.specs.{File.bucket_of, Plans.WriteFields}
 use Rattle.mlt_hash_access.specs.LocalStates.{LocalState}
 use Rattle.mlt_hash.specs.Walks.{WalkContext}
-use Rattle.mlt_tx_operation.specs.declared.answer.StepAnswer.TheVariants.{Going}
-use Rattle.mlt_tx_operation.specs.Answers.{TellsOfStep}
-use Rattle.mlt_tx_operation.specs.Operating.{OperationFields}
+use Rattle.mlt_tx_operation.specs.{declared.answer.StepAnswer.TheVariants.Going, Answers.TellsOfStep, Operating.OperationFields}
 
 -- nobody holds a page
 abbrev pub NobodyHolds : LockTable → Type 0

@@ -2,14 +2,8 @@
 use Rattle.std.specs.Prelude.{ℕ, ◌+◌, ◌*◌, nat_eq, if◌then◌else◌, Option}
 use Rattle.mlt_object_kinds.specs.declared.operation.ObjReply.{ObjReply}
 use Rattle.mlt_hash_access.specs.Views.{View}
-use Rattle.mlt_hash.specs.Steps.{steps_to_bucket}
-use Rattle.mlt_hash.specs.Walks.{WalkFields}
-use Rattle.mlt_hash.specs.declared.pass.Pass.{Pass}
-use Rattle.mlt_hash.specs.declared.pass.Pass.TheVariants.{First, Narrow, Wide}
-use Rattle.mlt_tx_operation.specs.declared.access_path.AccessPath.{AccessPath}
-use Rattle.mlt_tx_operation.specs.declared.access_path.AccessPath.TheVariants.{One, Two}
-use Rattle.mlt_tx_operation.specs.Operating.{OperationFields, steps_of_two}
-use Rattle.mlt_tx_operation.specs.Walking.{steps_of_walk}
+use Rattle.mlt_hash.specs.{Steps.steps_to_bucket, Walks.WalkFields, declared.pass.Pass.Pass, declared.pass.Pass.TheVariants.First, declared.pass.Pass.TheVariants.Narrow, declared.pass.Pass.TheVariants.Wide}
+use Rattle.mlt_tx_operation.specs.{declared.access_path.AccessPath.AccessPath, declared.access_path.AccessPath.TheVariants.One, declared.access_path.AccessPath.TheVariants.Two, Operating.OperationFields, Operating.steps_of_two, Walking.steps_of_walk}
 
 -- how many passes may still follow this one
 abbrev pub passes_after : Pass → ℕ

@@ -1,17 +1,13 @@
 -- Where an operation stands between two of its steps: on one record, or on two
 use Rattle.std.specs.Prelude.{ℕ, ◌≡◌, ◌≤◌, ◌<◌, ◌^◌, Option, None, Some}
 use Rattle.mlt_object_kinds.specs.declared.operation.ObjReply.{ObjReply}
-use Rattle.mlt_object_base.specs.declared.request.Request.{Request}
-use Rattle.mlt_object_base.specs.Requests.{size_key_of, target_of}
+use Rattle.mlt_object_base.specs.{declared.request.Request.Request, Requests.size_key_of, Requests.target_of}
 use Rattle.mlt_hash_form.specs.File.{FilePages, depth_of}
-use Rattle.mlt_hash_access.specs.LocalStates.{HasCleanFile, MayStep, LocalState}
-use Rattle.mlt_hash_access.specs.Views.{View, view_of}
-use Rattle.mlt_hash.specs.Walks.{WalkContext}
-use Rattle.mlt_hash.specs.declared.pass.Pass.{Pass}
+use Rattle.mlt_hash_access.specs.{LocalStates.HasCleanFile, LocalStates.MayStep, LocalStates.LocalState, Views.View, Views.view_of}
+use Rattle.mlt_hash.specs.{Walks.WalkContext, declared.pass.Pass.Pass}
 use Rattle.mlt_tx_two_records.specs.TwoRecordWalks.{CanDoBoth, IsFirst, IsTold, Stands, find_both, steps_of_two_records}
 use Rattle.mlt_tx_two_records.specs.declared.two_records.TwoRecordWalk.{TwoRecordWalk}
-use Rattle.mlt_tx_operation.specs.declared.access_path.AccessPath.{AccessPath}
-use Rattle.mlt_tx_operation.specs.declared.access_path.AccessPath.TheVariants.{One, Two}
+use Rattle.mlt_tx_operation.specs.declared.access_path.AccessPath.{AccessPath, TheVariants.One, TheVariants.Two}
 use Rattle.mlt_tx_operation.specs.Walking.{CanTakeBackOne, IsWalking, WalkingFields, steps_of_walk, walk_for, walking}
 
 -- what a contract sees of an operation: what it is asked, what it is told, once its next step is its end, and how it

@@ -3,9 +3,7 @@ use Rattle.std.specs.Prelude.{ℕ, Option}
 use Rattle.mlt_types.specs.declared.refusal.Refusal.{Refusal}
 use Rattle.mlt_object_base.specs.declared.record.RecChange.{RecChange}
 use Rattle.mlt_hash_access.specs.LocalStates.{LocalState}
-use Rattle.mlt_hash.specs.Walks.{WalkContext, WalkFields}
-use Rattle.mlt_hash.specs.Changes.{HasNoRoom, MustWiden, NeedsSplit}
-use Rattle.mlt_hash.specs.declared.answer.WalkAnswer.{WalkAnswer}
+use Rattle.mlt_hash.specs.{Walks.WalkContext, Walks.WalkFields, Changes.HasNoRoom, Changes.MustWiden, Changes.NeedsSplit, declared.answer.WalkAnswer.WalkAnswer}
 use Rattle.mlt_tx_two_records.specs.AtWideBuckets.{IsMade, OfAddition}
 
 -- The change is made; or it is an addition whose bucket has no room.

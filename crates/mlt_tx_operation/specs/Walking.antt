@@ -2,23 +2,12 @@
 use Rattle.std.specs.Prelude.{ℕ, ◌≡◌, ◌+◌, Option, None, Some}
 use Rattle.mlt_page.specs.declared.page.Page.{Page}
 use Rattle.mlt_object_kinds.specs.declared.operation.ObjReply.{ObjReply}
-use Rattle.mlt_object_base.specs.declared.record.RecChange.{RecChange}
-use Rattle.mlt_object_base.specs.declared.record.RecChange.TheVariants.{Revive}
-use Rattle.mlt_object_base.specs.declared.request.Request.{Request}
-use Rattle.mlt_object_base.specs.declared.request.Request.TheVariants.{Do, TakeBack}
-use Rattle.mlt_object_base.specs.Effects.{inverse_of}
-use Rattle.mlt_object_base.specs.Records.{CanChange}
-use Rattle.mlt_object_base.specs.Requests.{decision, size_key_of, target_of}
+use Rattle.mlt_object_base.specs.{declared.record.RecChange.RecChange, declared.record.RecChange.TheVariants.Revive, declared.request.Request.Request, declared.request.Request.TheVariants.Do, declared.request.Request.TheVariants.TakeBack, Effects.inverse_of, Records.CanChange, Requests.decision, Requests.size_key_of, Requests.target_of}
 use Rattle.mlt_hash_form.specs.Held.{Agrees}
-use Rattle.mlt_hash_access.specs.LocalStates.{LocalState}
-use Rattle.mlt_hash_access.specs.Views.{View, view_of}
+use Rattle.mlt_hash_access.specs.{LocalStates.LocalState, Views.View, Views.view_of}
 use Rattle.mlt_hash.specs.Walks.{WalkContext, HasRead, IsAtBucket, IsStanding, MayWalk, WalkFields}
-use Rattle.mlt_hash.specs.Changes.{HasOwnGhost}
-use Rattle.mlt_hash.specs.declared.pass.Change.{Change}
-use Rattle.mlt_hash.specs.declared.pass.Pass.{Pass}
-use Rattle.mlt_hash.specs.declared.pass.Phase.{Phase}
-use Rattle.mlt_tx_two_records.specs.Performing.{AsksToAdd, Performs}
-use Rattle.mlt_tx_two_records.specs.WalkSteps.{steps_to_change}
+use Rattle.mlt_hash.specs.{Changes.HasOwnGhost, declared.pass.Change.Change, declared.pass.Pass.Pass, declared.pass.Phase.Phase}
+use Rattle.mlt_tx_two_records.specs.{Performing.AsksToAdd, Performing.Performs, WalkSteps.steps_to_change}
 
 -- an operation on one record: what it is asked, what it is told, once its next step is its end, and its walk
 pub record WalkingFields : Type 0 where

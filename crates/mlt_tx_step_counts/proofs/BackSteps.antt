@@ -3,8 +3,7 @@ use Rattle.std.proofs.Common.{ℕ, ◌≡◌, ◌⊎◌, List, [], ◌∷◌, �
 use Rattle.mlt_tx_step_counts.proofs.Names.{ObjOp, ObjReply, inverse_of, local, View, view_of, WalkContext, one_key, StepsOn, OperationFields, Answer, At, Transaction, inverse_from, TellsAt, TellsOfTransaction, IsTakenBack, IsToTakeBack, AreOwnSteps, GoesThen, OwnStep, answers_of, context_at, view_in, with_answer}
 use Rattle.mlt_object_base.specs.Undo.{Undo}
 use Rattle.mlt_tx_operation.specs.Answers.{Waits}
-use Rattle.mlt_tx.specs.Transactions.{StepsBack}
-use Rattle.mlt_tx.proofs.Backing.{one_last}
+use Rattle.mlt_tx.{specs.Transactions.StepsBack, proofs.Backing.one_last}
 
 not_both : {A B : Type 0} (o : Option B) → IsSome o → o ≡ None → A
 not_both None is none = cc

@@ -1,7 +1,6 @@
 -- The steps of splits: three each, and what they take beyond
 use Rattle.std.proofs.Common.{ℕ, zero, suc, ◌≡◌, ◌≤◌, ◌+◌, ◌*◌, ◌-◌, ◌^◌, nat_eq, nat_lt, if◌then◌else◌, refl, ◌∙◌, inl, inr, arith, eq-eqb, le-ltb, lt-ltb, ne_eqb}
-use Rattle.std.proofs.Math.Nat.{pow-le-pow_right}
-use Rattle.std.proofs.lemmas.Bool.{cases_eq, cases_lt, cond-false, cond-true}
+use Rattle.std.proofs.{Math.Nat.pow-le-pow_right, lemmas.Bool.cases_eq, lemmas.Bool.cases_lt, lemmas.Bool.cond-false, lemmas.Bool.cond-true}
 use Rattle.mlt_tx_step_counts.proofs.Names.{directory_steps, depth_after}
 use Rattle.mlt_hash.specs.StepsLeft.{steps_of_splits}
 use Rattle.mlt_tx_step_counts.specs.Extra.{extra_of_split, extra_of_splits}

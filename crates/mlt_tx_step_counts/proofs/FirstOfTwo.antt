@@ -3,8 +3,7 @@ use Rattle.std.proofs.Common.{ℕ, suc, ◌≡◌, ◌≤◌, ◌+◌, ◌⊎◌
 use Rattle.mlt_tx_step_counts.proofs.Names.{ObjOp, ObjReply, Do, size_key_of, target_of, local, View, PairFields, find_by, least_steps, most_steps, WalkContext, WalkFields, one_key, TwoRecordWalk, First, Owing, Wide, WideStage, GoesOnBy, TellsLast, wide_to, Two, access_path_for, started_for, Answer, At, Transaction, IsDoneOrBlocked, started_wide, AreOwnSteps, GoesThen, GoesToTurn, OwnStep, answers_of, context_at, view_in, with_answer}
 use Rattle.mlt_hash_pair.specs.declared.descent.Descent.{Descent}
 use Rattle.mlt_tx_two_records.specs.TwoRecordWalks as walks
-use Rattle.mlt_tx_step_counts.specs.CountsOfTwo.{FindsBoth, FindsNoRoomForTwo, OwesEarlier}
-use Rattle.mlt_tx_step_counts.specs.OwnSteps.{GoesBelow}
+use Rattle.mlt_tx_step_counts.specs.{CountsOfTwo.FindsBoth, CountsOfTwo.FindsNoRoomForTwo, CountsOfTwo.OwesEarlier, OwnSteps.GoesBelow}
 use Rattle.mlt_tx_step_counts.proofs.Answers.{then_after_going, then_after_wait, turn_after_going, turn_after_wait, turn_here}
 use Rattle.mlt_tx_step_counts.proofs.StagesOfTwo.{IsReady, StandsAt, end_comes_of_two, pending_at, step_of_two}
 

@@ -1,10 +1,8 @@
 -- The steps of an inverse of an operation on one record, one after another
 use Rattle.std.proofs.Common.{ℕ, zero, suc, ◌≡◌, ◌≤◌, List, [], ◌∷◌, Option, None, Some, refl, ap, subst, ◌∙◌, inl, inr, arith}
 use Rattle.mlt_tx_step_counts.proofs.Names.{ObjOp, ObjReply, TakeBack, size_key_of, local, View, WalkContext, one_key, StepsOn, OperationFields, access_path_for, on_one, WalkingFields, steps_of_walk, walk_for, walking, Transaction, inverse_from, IsTakenBack, IsToTakeBack, AreOwnSteps, GoesThen, OwnStep, answers_of, context_at, view_in}
-use Rattle.mlt_tx_step_counts.specs.Counts.{TakesBackInFour}
-use Rattle.mlt_tx_step_counts.proofs.Answers.{then_after_going, then_after_wait}
+use Rattle.mlt_tx_step_counts.{specs.Counts.TakesBackInFour, proofs.Answers.then_after_going, proofs.Answers.then_after_wait, proofs.Stages.one_fewer_after, proofs.Stages.still_on_one, proofs.Stages.untold_before}
 use Rattle.mlt_tx_step_counts.proofs.BackSteps.{GoesBack, StaysBack, Undoes, inverse_step, taken_then, to_begin, without_inverse}
-use Rattle.mlt_tx_step_counts.proofs.Stages.{one_fewer_after, still_on_one, untold_before}
 
 -- Of the inverse that runs, or is to begin, n steps are left. It is told its reply at the last, and not before.
 record InverseStage (context : WalkContext) (n : ℕ) (inverting : Option OperationFields) (last : ObjOp × ObjReply) (t : Transaction) (seen : View) : Type 0 where

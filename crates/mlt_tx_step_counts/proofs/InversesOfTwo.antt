@@ -3,12 +3,9 @@ use Rattle.std.proofs.Common.{ℕ, zero, suc, ◌≡◌, ◌≤◌, ◌+◌, ◌
 use Rattle.mlt_tx_step_counts.proofs.Names.{ObjOp, ObjReply, Request, TakeBack, inverse_of, size_key_of, target_of, LocalState, local, View, view_of, PairFields, find_by, least_steps, most_steps, WalkContext, one_key, TwoRecordWalk, First, Owing, Wide, WideStage, TellsLast, AccessPath, One, Two, StepsOn, IsInFirst, OperationFields, access_path_for, Transaction, inverse_from, IsTakenBack, IsToTakeBack, AreOwnSteps, GoesThen, OwnStep, answers_of, context_at, view_in}
 use Rattle.mlt_object_kinds.specs.declared.element.ElementOp.{ElementOp}
 use Rattle.mlt_tx_two_records.specs.TwoRecordWalks.{IsFirst}
-use Rattle.mlt_tx_operation.specs.Answers.{TwoRecordSteps, StepsBy}
-use Rattle.mlt_tx_operation.specs.Operating.{steps_by, steps_left}
-use Rattle.mlt_tx_step_counts.specs.CountsOfTwo.{TakesBackInSeven}
-use Rattle.mlt_tx_step_counts.proofs.Answers.{then_after_going, then_after_wait}
+use Rattle.mlt_tx_operation.specs.{Answers.TwoRecordSteps, Answers.StepsBy, Operating.steps_by, Operating.steps_left}
+use Rattle.mlt_tx_step_counts.{specs.CountsOfTwo.TakesBackInSeven, proofs.Answers.then_after_going, proofs.Answers.then_after_wait, proofs.FirstOfTwo.few_or_more}
 use Rattle.mlt_tx_step_counts.proofs.BackSteps.{GoesBack, StaysBack, Undoes, inverse_step, taken_then, to_begin}
-use Rattle.mlt_tx_step_counts.proofs.FirstOfTwo.{few_or_more}
 
 -- The abort takes an operation on two records back, and its inverse is here; it is not told its reply.
 record StandsBack (two_records : TwoRecordWalk) (inverting : Option OperationFields) (last : ObjOp × ObjReply) (t : Transaction) : Type 0 where

@@ -3,8 +3,7 @@ use Rattle.std.proofs.Common.{ℕ, zero, suc, ◌≡◌, ◌≤◌, ◌⊎◌, L
 use Rattle.mlt_types.specs.declared.mode.Mode.{Mode}
 use Rattle.mlt_tx_step_counts.proofs.Names.{ObjOp, Request, Do, target_of, bucket_of, LocalState, local, View, view_of, page_of, steps_to_bucket, bucket_depth, directory_depth, WalkContext, IsAdding, Stands, WalkFields, one_key, Pass, Phase, put_on_way, StepsOn, on_one, FitsPhase, WalkingFields, steps_of_walk, walk_for, walking, Answer, At, Transaction, TellsOfTransaction, IsDoneOrBlocked, IsRefusal, AreOwnSteps, GoesThen, GoesToTurn, GoesUpTo, OwnStep, answers_of, context_at, view_in}
 use Rattle.mlt_hash.specs.Passes.{IsNextPass, next_of}
-use Rattle.mlt_tx_operation.specs.Answers.{HasToRestart, PutsBehindSplits, Restarts, SplitsFromHere}
-use Rattle.mlt_tx_operation.specs.Walking.{IsToAdd}
+use Rattle.mlt_tx_operation.specs.{Answers.HasToRestart, Answers.PutsBehindSplits, Answers.Restarts, Answers.SplitsFromHere, Walking.IsToAdd}
 use Rattle.mlt_tx_step_counts.specs.Counts.{BeginsSplits, FindsNoRoom, MayFollow, PutsRecord, TakesFirstPass, TakesLaterPass, TakesNarrowPass, TakesNextPass, started_in}
 use Rattle.mlt_tx_step_counts.proofs.Answers.{ended_then, refused_in, then_after_going, then_after_wait, turn_after_going, turn_after_wait, turn_here, up_to_after_wait, up_to_after_going}
 use Rattle.mlt_tx_step_counts.proofs.PendingSteps.{last_step, one_step}

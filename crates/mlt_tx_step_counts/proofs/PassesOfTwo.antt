@@ -2,11 +2,7 @@
 use Rattle.std.proofs.Common.{◌≡◌, ℕ, List, Option, None, Some, IsSome, is_some, refl, ap, ◌∙◌}
 use Rattle.mlt_tx_step_counts.proofs.Names.{ObjOp, ObjReply, Do, TakeBack, size_key_of, View, WalkContext, one_key, access_path_for, started_for, At, Transaction, IsToTakeBack, TakesWidePassOfTwo, AreOwnSteps, OwnStep}
 use Rattle.mlt_tx_step_counts.specs.CountsOfTwo.{TakesBackBy, TakesBackOf, TakesFirstPassOfTwo, TakesPassBy, TakesPassOf}
-use Rattle.mlt_tx_step_counts.proofs.FirstOfTwo.{first_of_two}
-use Rattle.mlt_tx_step_counts.proofs.Inverses.{taken_back}
-use Rattle.mlt_tx_step_counts.proofs.InversesOfTwo.{taken_back_of_two}
-use Rattle.mlt_tx_step_counts.proofs.Passes.{first_pass}
-use Rattle.mlt_tx_step_counts.proofs.WideOfTwo.{wide_of_two}
+use Rattle.mlt_tx_step_counts.proofs.{FirstOfTwo.first_of_two, Inverses.taken_back, InversesOfTwo.taken_back_of_two, Passes.first_pass, WideOfTwo.wide_of_two}
 
 -- **A first pass on two records, and the wide one that may follow.**
 pub first_pass_of_two : (context : WalkContext) (op : ObjOp) (t : Transaction) (seen : View) (steps : List OwnStep) → IsSome (size_key_of (Do op)) → t.at ≡ At.Pending (started_for (Do op)) → AreOwnSteps (one_key context) t seen steps

@@ -1,8 +1,7 @@
 -- One step of a pending operation, on one record or on two: before its reply is told, and behind that
 use Rattle.std.proofs.Common.{ℕ, ◌≡◌, ◌⊎◌, Option, None, Some, IsSome, refl, sym, ap, subst, ◌∙◌, inl, inr}
 use Rattle.mlt_tx_step_counts.proofs.Names.{ObjReply, local, view_of, WalkContext, one_key, StepAnswer, TellsOfStep, IsInFirst, OperationFields, Answer, At, Transaction, TellsAt, TellsOfTransaction, IsDoneOrBlocked, IsRefusal, OwnStep, context_at, view_in}
-use Rattle.mlt_tx.specs.declared.shared.SharedState.{SharedState}
-use Rattle.mlt_tx.specs.Transactions.{StepsPending}
+use Rattle.mlt_tx.specs.{declared.shared.SharedState.SharedState, Transactions.StepsPending}
 
 -- it is told Going
 pub record Goes (context : WalkContext) (o : OperationFields) (t : Transaction) (own : OwnStep) : Type 0 where

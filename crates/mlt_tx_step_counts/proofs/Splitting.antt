@@ -3,10 +3,8 @@ use Rattle.std.proofs.Common.{ℕ, zero, suc, ◌≡◌, ◌≤◌, ◌<◌, ◌
 use Rattle.mlt_tx_step_counts.proofs.Names.{View, SplitFields, directory_steps, steps_to_bucket, bucket_depth, depth_after, directory_depth, steps_to_put_at, WalkContext, WalkFields, one_key, Phase, Answer, Transaction, TellsOfTransaction, IsRefusal, AreOwnSteps, GoesToTurn, GoesUpTo, OwnStep, answers_of, context_at, view_in}
 use Rattle.mlt_hash.specs.StepsLeft.{steps_of_splits, steps_to_put}
 use Rattle.mlt_tx_two_records.specs.Depths.{Depths, GoesDown, deeper, depths_at}
-use Rattle.mlt_tx_step_counts.specs.Counts.{SplitsAndPutsOrNot}
-use Rattle.mlt_tx_step_counts.specs.Extra.{extra_of_splits}
+use Rattle.mlt_tx_step_counts.{specs.Counts.SplitsAndPutsOrNot, specs.Extra.extra_of_splits, proofs.Extra.of_one, proofs.Extra.of_splits, proofs.Extra.one_at_least}
 use Rattle.mlt_tx_step_counts.proofs.Answers.{refused_in, turn_after_going, turn_after_wait, turn_here, up_to_after_going, up_to_after_wait}
-use Rattle.mlt_tx_step_counts.proofs.Extra.{of_one, of_splits, one_at_least}
 
 -- the depths once the bucket is split so many times
 abbrev pub down : ℕ → Depths → Depths

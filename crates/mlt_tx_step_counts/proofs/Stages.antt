@@ -2,8 +2,7 @@
 use Rattle.std.proofs.Common.{ℕ, ◌≡◌, ◌≤◌, ◌+◌, ◌-◌, Option, None, Some, IsSome, is_some, refl, sym, ap, subst, ◌∙◌, inl, inr, arith}
 use Rattle.mlt_tx_step_counts.proofs.Names.{ObjOp, ObjReply, Request, Do, LocalState, local, View, SplitFields, steps_to_bucket, bucket_depth, depth_after, directory_depth, steps_to_put_at, WalkContext, Stands, WalkFields, one_key, Pass, Phase, StepAnswer, AccessPath, One, Two, StepsOn, TellsOfStep, OperationFields, on_one, FitsPhase, WalkingFields, steps_of_walk, walking, At, Transaction, OwnStep, context_at, view_in}
 use Rattle.mlt_hash.specs.StepsLeft.{steps_of_splits, steps_with_split}
-use Rattle.mlt_tx_step_counts.proofs.Extra.{one_at_least, one_or_four}
-use Rattle.mlt_tx_step_counts.proofs.PendingSteps.{Goes}
+use Rattle.mlt_tx_step_counts.proofs.{Extra.one_at_least, Extra.one_or_four, PendingSteps.Goes}
 
 -- how many steps are left at this phase
 abbrev pub left_at : Phase → ℕ → WalkFields → View → ℕ

@@ -3,8 +3,7 @@ use Rattle.std.proofs.Common.{ℕ, ◌≡◌, ◌⊎◌, List, [], ◌∷◌, Op
 use Rattle.mlt_tx_step_counts.proofs.Names.{ObjReply, Request, LocalState, local, View, view_of, WalkContext, one_key, TwoRecordWalk, First, Wide, WideStage, GoesOnBy, TellsLast, StepAnswer, AccessPath, One, Two, TellsOfStep, IsInFirst, OperationFields, Answer, At, Transaction, TellsOfTransaction, IsDoneOrBlocked, IsRefusal, IsPendingAt, AreOwnSteps, GoesThen, OwnStep, answers_of, context_at, view_in}
 use Rattle.mlt_tx_two_records.specs.TwoRecordWalks as walks
 use Rattle.mlt_tx_operation.specs.Answers.{TwoRecordRestarts}
-use Rattle.mlt_tx_step_counts.proofs.Answers.{ended_then}
-use Rattle.mlt_tx_step_counts.proofs.PendingSteps.{Goes, last_step, one_step}
+use Rattle.mlt_tx_step_counts.proofs.{Answers.ended_then, PendingSteps.Goes, PendingSteps.last_step, PendingSteps.one_step}
 
 -- the reply is not told yet, and the operation has gone on so; or it is told now
 abbrev pub GoesOnOrTells : Option ObjReply → TwoRecordWalk → TwoRecordWalk → WalkContext → LocalState → LocalState → Request → Type 0

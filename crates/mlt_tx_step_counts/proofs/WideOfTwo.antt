@@ -2,21 +2,14 @@
 use Rattle.std.proofs.Common.{ℕ, zero, suc, ◌≡◌, ◌≤◌, ◌+◌, ◌-◌, ◌⊎◌, List, [], ◌∷◌, true, refl, sym, ap, subst, ◌∙◌, inl, inr, arith}
 use Rattle.mlt_tx_step_counts.proofs.Names.{ObjOp, Request, Do, target_of, bucket_of, LocalState, local, View, page_of, steps_to_bucket, bucket_depth, directory_depth, steps_to_put_at, WalkContext, IsAdding, Stands, WalkFields, one_key, Pass, Phase, put_on_way, TwoRecordWalk, First, Owing, Wide, WideStage, GoesOnBy, TellsLast, wide_to, Answer, At, Transaction, TellsOfTransaction, IsDoneOrBlocked, IsRefusal, IsPendingAt, TakesWidePassOfTwo, started_wide, AreOwnSteps, GoesThen, GoesToTurn, GoesUpTo, OwnStep, answers_of, context_at, view_in}
 use Rattle.mlt_hash_form.specs.File.{FilePages}
-use Rattle.mlt_hash_access.proofs.Since.{read_over_writes}
-use Rattle.mlt_hash_access.specs.Views.{HasWritten, rebased}
+use Rattle.mlt_hash_access.{proofs.Since.read_over_writes, specs.Views.HasWritten, specs.Views.rebased}
 use Rattle.mlt_hash_split.specs.Rests.{held_page}
-use Rattle.mlt_hash.specs.Splitting.{IsUnderWay}
-use Rattle.mlt_hash.specs.StepsLeft.{steps_of_splits}
-use Rattle.mlt_hash.specs.Walks.{context_after}
+use Rattle.mlt_hash.specs.{Splitting.IsUnderWay, StepsLeft.steps_of_splits, Walks.context_after}
 use Rattle.mlt_tx_two_records.specs.TwoRecordWalks as walks
-use Rattle.mlt_tx_two_records.specs.WalkSteps.{BeginsToSplit, GoesNearer, steps_to_change}
-use Rattle.mlt_tx_two_records.specs.WidePass.{HasChangedNow, PutsBehind}
-use Rattle.mlt_tx_step_counts.specs.Counts.{IsToSplit}
+use Rattle.mlt_tx_two_records.specs.{WalkSteps.BeginsToSplit, WalkSteps.GoesNearer, WalkSteps.steps_to_change, WidePass.HasChangedNow, WidePass.PutsBehind}
+use Rattle.mlt_tx_step_counts.{specs.Counts.IsToSplit, proofs.Extra.one_at_least, proofs.Extra.one_or_four, proofs.Splitting.PutsNow, proofs.Splitting.SplitOutcome, proofs.Splitting.splits_and_puts, proofs.Stages.some_behind}
 use Rattle.mlt_tx_step_counts.specs.CountsOfTwo.{BeginsSplitsOn, BeginsToSplitOn, GoesOver, PutsOn, TakesSizesWideStage}
 use Rattle.mlt_tx_step_counts.proofs.Answers.{refused_in, then_after_going, then_after_wait, turn_after_going, turn_after_wait, turn_here, up_to_after_going, up_to_after_wait}
-use Rattle.mlt_tx_step_counts.proofs.Extra.{one_at_least, one_or_four}
-use Rattle.mlt_tx_step_counts.proofs.Splitting.{PutsNow, SplitOutcome, splits_and_puts}
-use Rattle.mlt_tx_step_counts.proofs.Stages.{some_behind}
 use Rattle.mlt_tx_step_counts.proofs.StagesOfTwo.{GoesAt, WaitsAt, IsReady, StandsAt, end_comes_of_two, pending_at, step_of_two}
 
 -- ---- what a walk sees of pages that it wrote before

@@ -1,23 +1,12 @@
 -- How many steps an operation takes, and an inverse
 use Rattle.std.specs.Prelude.{ℕ, ◌≡◌, ◌<◌, ◌≤◌, ◌+◌, ◌-◌, ◌*◌, ◌⊎◌, List, [], ◌∷◌, ◌++◌, None, IsSome, true}
-use Rattle.mlt_object_kinds.specs.declared.operation.ObjOp.{ObjOp}
-use Rattle.mlt_object_kinds.specs.declared.operation.ObjReply.{ObjReply}
-use Rattle.mlt_object_base.specs.declared.request.Request.{Request}
-use Rattle.mlt_object_base.specs.declared.request.Request.TheVariants.{Do}
-use Rattle.mlt_object_base.specs.Effects.{inverse_of}
-use Rattle.mlt_hash_access.specs.LocalStates.{local}
-use Rattle.mlt_hash_access.specs.Views.{View}
-use Rattle.mlt_hash.specs.StepsLeft.{bucket_depth, directory_depth}
-use Rattle.mlt_hash.specs.Walks.{WalkContext, WalkFields}
-use Rattle.mlt_hash.specs.declared.pass.Pass.{Pass}
-use Rattle.mlt_hash.specs.declared.pass.Pass.TheVariants.{First, Narrow, Wide}
-use Rattle.mlt_hash.specs.declared.pass.Phase.{Phase}
-use Rattle.mlt_tx_operation.specs.Answers.{PutsBehindSplits, Restarts, SplitsFromHere}
-use Rattle.mlt_tx_operation.specs.Operating.{OperationFields, on_one}
-use Rattle.mlt_tx_operation.specs.Walking.{WalkingFields, walk_for, walking}
+use Rattle.mlt_object_kinds.specs.declared.operation.{ObjOp.ObjOp, ObjReply.ObjReply}
+use Rattle.mlt_object_base.specs.{declared.request.Request.Request, declared.request.Request.TheVariants.Do, Effects.inverse_of}
+use Rattle.mlt_hash_access.specs.{LocalStates.local, Views.View}
+use Rattle.mlt_hash.specs.{StepsLeft.bucket_depth, StepsLeft.directory_depth, Walks.WalkContext, Walks.WalkFields, declared.pass.Pass.Pass, declared.pass.Pass.TheVariants.First, declared.pass.Pass.TheVariants.Narrow, declared.pass.Pass.TheVariants.Wide, declared.pass.Phase.Phase}
+use Rattle.mlt_tx_operation.specs.{Answers.PutsBehindSplits, Answers.Restarts, Answers.SplitsFromHere, Operating.OperationFields, Operating.on_one, Walking.WalkingFields, Walking.walk_for, Walking.walking}
 use Rattle.mlt_event.specs.declared.answer.Answer.{Answer}
-use Rattle.mlt_tx.specs.declared.transaction.At.{At}
-use Rattle.mlt_tx.specs.declared.transaction.Transaction.{Transaction}
+use Rattle.mlt_tx.specs.declared.transaction.{At.At, Transaction.Transaction}
 use Rattle.mlt_tx_step_counts.specs.Extra.{extra_of_splits}
 use Rattle.mlt_tx_step_counts.specs.OwnSteps.{GoesThen, GoesToTurn, GoesUpTo, OwnStep, answers_of, context_at, view_in}
 

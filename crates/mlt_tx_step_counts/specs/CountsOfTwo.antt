@@ -1,27 +1,15 @@
 -- How many steps an operation on two records takes, and an inverse: where an element is added or removed, and the size of its
 -- set is changed
 use Rattle.std.specs.Prelude.{ℕ, ◌≡◌, ◌≤◌, ◌⊎◌, List, Option, None, Some, false}
-use Rattle.mlt_object_kinds.specs.declared.operation.ObjOp.{ObjOp}
-use Rattle.mlt_object_kinds.specs.declared.operation.ObjReply.{ObjReply}
-use Rattle.mlt_object_base.specs.declared.request.Request.{Request}
-use Rattle.mlt_object_base.specs.declared.request.Request.TheVariants.{Do, TakeBack}
-use Rattle.mlt_object_base.specs.Requests.{size_key_of, target_of}
+use Rattle.mlt_object_kinds.specs.declared.operation.{ObjOp.ObjOp, ObjReply.ObjReply}
+use Rattle.mlt_object_base.specs.{declared.request.Request.Request, declared.request.Request.TheVariants.Do, declared.request.Request.TheVariants.TakeBack, Requests.size_key_of, Requests.target_of}
 use Rattle.mlt_hash_access.specs.LocalStates.{LocalState, local}
 use Rattle.mlt_hash_pair.specs.Pairs.{PairFields}
-use Rattle.mlt_hash.specs.Steps.{steps_to_bucket}
-use Rattle.mlt_hash.specs.StepsLeft.{bucket_depth}
+use Rattle.mlt_hash.specs.{Steps.steps_to_bucket, StepsLeft.bucket_depth, declared.pass.Phase.Phase}
 use Rattle.mlt_hash.specs.Walks.{WalkContext, Before, WalkFields, context_after, one_key}
-use Rattle.mlt_hash.specs.declared.pass.Phase.{Phase}
-use Rattle.mlt_tx_two_records.specs.declared.two_records.TwoRecordWalk.{TwoRecordWalk}
-use Rattle.mlt_tx_two_records.specs.declared.two_records.TwoRecordWalk.TheVariants.{First, Owing, Wide}
-use Rattle.mlt_tx_two_records.specs.declared.two_records.WideStage.{WideStage}
-use Rattle.mlt_tx_two_records.specs.FirstPass.{FindsNoRoom}
-use Rattle.mlt_tx_two_records.specs.WalkSteps.{BeginsToSplit}
-use Rattle.mlt_tx_two_records.specs.WidePass.{HasChangedNow, wide_to}
-use Rattle.mlt_tx_operation.specs.declared.access_path.AccessPath.TheVariants.{Two}
-use Rattle.mlt_tx_operation.specs.Operating.{OperationFields}
-use Rattle.mlt_tx.specs.declared.transaction.At.{At}
-use Rattle.mlt_tx.specs.declared.transaction.Transaction.{Transaction}
+use Rattle.mlt_tx_two_records.specs.{declared.two_records.TwoRecordWalk.TwoRecordWalk, declared.two_records.TwoRecordWalk.TheVariants.First, declared.two_records.TwoRecordWalk.TheVariants.Owing, declared.two_records.TwoRecordWalk.TheVariants.Wide, declared.two_records.WideStage.WideStage, FirstPass.FindsNoRoom, WalkSteps.BeginsToSplit, WidePass.HasChangedNow, WidePass.wide_to}
+use Rattle.mlt_tx_operation.specs.{declared.access_path.AccessPath.TheVariants.Two, Operating.OperationFields}
+use Rattle.mlt_tx.specs.declared.transaction.{At.At, Transaction.Transaction}
 use Rattle.mlt_tx_step_counts.specs.Counts.{IsDoneOrBlocked, IsRefusal, IsTakenBack, IsToSplit, SplitsAndPutsOrNot, TakesBackInFour, TakesFirstPass}
 use Rattle.mlt_tx_step_counts.specs.OwnSteps.{GoesBelow, GoesThen, GoesToTurn, GoesUpTo, OwnStep, answers_of, context_at, view_in}
 

@@ -2,13 +2,10 @@
 use Rattle.std.specs.Prelude.{ℕ, zero, suc, ◌≡◌, ◌<◌, ◌⊎◌, List, [], ◌∷◌, ◌++◌}
 use Rattle.std.specs.Ordering.{nat_cmp}
 use Rattle.std.specs.FinSet as set
-use Rattle.mlt_hash_access.specs.LocalStates.{local}
-use Rattle.mlt_hash_access.specs.Views.{View, view_of}
+use Rattle.mlt_hash_access.specs.{LocalStates.local, Views.View, Views.view_of}
 use Rattle.mlt_hash.specs.Walks.{WalkContext}
 use Rattle.mlt_event.specs.declared.answer.Answer.{Answer}
-use Rattle.mlt_tx.specs.declared.shared.SharedState.{SharedState}
-use Rattle.mlt_tx.specs.declared.transaction.Transaction.{Transaction}
-use Rattle.mlt_tx.specs.Transactions.{TellsOfTransaction}
+use Rattle.mlt_tx.specs.{declared.shared.SharedState.SharedState, declared.transaction.Transaction.Transaction, Transactions.TellsOfTransaction}
 
 -- one step of a transaction: who was open, what all transactions share before it and after it, what the transaction is after
 -- it, and what it was told

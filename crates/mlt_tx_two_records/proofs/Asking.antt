@@ -2,8 +2,7 @@
 use Rattle.std.proofs.Common.{◌≡◌, ℕ, Bool, true, false, Option, None, Some, refl, sym, ap, ◌∙◌}
 use Rattle.mlt_tx_two_records.proofs.Names.{false≢true, none-some, ElementOp, Element, ObjReply, RecChange, Add, Set, ToGhost, Revive, Plus, Minus, Request, Do, size_change_of, CanChange, decision, size_decision, size_key_of, FitsFound, AddsElement, asked_of}
 use Rattle.mlt_object_kinds.specs.declared.operation.ObjOp.{ObjOp}
-use Rattle.mlt_object_base.specs.declared.request.Request.TheVariants.{TakeBack}
-use Rattle.mlt_object_base.specs.Effects.{size_inverse_of}
+use Rattle.mlt_object_base.specs.{declared.request.Request.TheVariants.TakeBack, Effects.size_inverse_of}
 
 -- **What a pair is asked for fits what was found, where the change does.**
 pub asked_fits : (change : RecChange) (found : Option ℕ) → CanChange (Some change) found → FitsFound (Some (asked_of change found)) found

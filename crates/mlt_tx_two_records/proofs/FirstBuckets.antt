@@ -3,17 +3,9 @@ use Rattle.std.proofs.Common.{◌≡◌, ◌⊎◌, ℕ, Option, None, Some, is_
 use Rattle.mlt_tx_two_records.proofs.Names.{false≢true, none-some, is_ghost_of, BucketFields, ObjReply, RecChange, Add, Set, ToGhost, Revive, Plus, Minus, Request, CanChange, decision, size_decision, size_key_of, FilePages, bucket_of, lead_of, Agrees, over, own_or_clean, LocalState, IsRolledBack, ReadsHeldBucket, view_of, agrees, HasChanged, LeavesLeft, LeavesRight, MakesBoth, PairFields, later_page, FitsFound, found_of, RecordChange, holds_read, both_lead, WalkContext, nowhere_found, MayActOnBoth, Writes, HasGhostOn, AsksForBoth, AsksForNone, HasToldFirst, OwesOne, task_for, AddsElement, asked_of}
 use Rattle.mlt_hash_access.proofs.Leaving.{leaves_it}
 use Rattle.mlt_hash_pair.specs.Changes.{FitsBoth, IsFull, IsFullBehind, TellsOfTwo, task_of}
-use Rattle.mlt_hash_pair.specs.Plans.{HasNoPlan}
-use Rattle.mlt_hash_pair.specs.Descents.{page_of}
-use Rattle.mlt_hash_pair.specs.declared.answer.ChangeAnswer.{ChangeAnswer}
-use Rattle.mlt_hash_pair.specs.declared.answer.Side.{Side}
-use Rattle.mlt_hash_pair.specs.declared.asked.PairChanges.{PairChanges}
-use Rattle.mlt_tx_two_records.specs.AtBuckets.{RollsBack}
-use Rattle.mlt_tx_two_records.specs.FirstPass.{HasFullBucket, changes_for}
-use Rattle.mlt_tx_two_records.proofs.Asking.{adds_by_own, adds_by_size, asked_fits, never_revives_size}
+use Rattle.mlt_hash_pair.specs.{Plans.HasNoPlan, Descents.page_of, declared.answer.ChangeAnswer.ChangeAnswer, declared.answer.Side.Side, declared.asked.PairChanges.PairChanges}
+use Rattle.mlt_tx_two_records.{specs.AtBuckets.RollsBack, specs.FirstPass.HasFullBucket, specs.FirstPass.changes_for, proofs.Asking.adds_by_own, proofs.Asking.adds_by_size, proofs.Asking.asked_fits, proofs.Asking.never_revives_size, proofs.Planning.GhostThere, proofs.RollingBack.starts_again}
 use Rattle.mlt_tx_two_records.proofs.FirstChanges.{buckets_alone, makes_both, owes_one, told_both, told_none}
-use Rattle.mlt_tx_two_records.proofs.Planning.{GhostThere}
-use Rattle.mlt_tx_two_records.proofs.RollingBack.{starts_again}
 
 -- of two options that are there or not alike
 none_too : {A B : Type 0} (a : Option A) (b : Option B) → is_some a ≡ is_some b → b ≡ None → a ≡ None

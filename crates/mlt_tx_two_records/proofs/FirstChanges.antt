@@ -3,9 +3,7 @@ use Rattle.std.proofs.Common.{◌≡◌, ◌≢◌, ◌⊎◌, ℕ, Option, None
 use Rattle.mlt_tx_two_records.proofs.Names.{cases_eq, cond-false, cond-true, Page, ObjReply, Request, CanChange, ReadsHeldBucket, View, WritesPage, WriteFields, planned_page, HasChanged, IsHolding, LeavesLeft, LeavesRight, MakesBoth, IsFinding, IsFound, PairFields, later_page, found_of, holds_read, WalkContext, Change, AsksForBoth, AsksForNone, ChangesBoth, HasKeys, HasToldFirst, OwesEither, OwesOne, task_for, asked_of, PlansRecord, WritesRecord}
 use Rattle.std.proofs.lemmas.Bool.{cases_Bool}
 use Rattle.mlt_hash_access.specs.Views.{WritesSlot}
-use Rattle.mlt_hash_pair.specs.Changes.{Task, WritesBucketsAlone}
-use Rattle.mlt_hash_pair.specs.Pairs.{later_of}
-use Rattle.mlt_hash_pair.specs.Descents.{page_of}
+use Rattle.mlt_hash_pair.specs.{Changes.Task, Changes.WritesBucketsAlone, Pairs.later_of, Descents.page_of}
 use Rattle.mlt_tx_two_records.proofs.Asking.{asked_fits, never_revives_size}
 use Rattle.mlt_tx_two_records.proofs.Planning.{FitsThere, GhostThere, IsMade, IsOwed, fits_beside, is_made, is_owed, planned_beside, planned_beside_before, way_fits}
 

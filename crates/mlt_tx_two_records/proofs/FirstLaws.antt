@@ -4,8 +4,7 @@ use Rattle.std.specs.FinSet as set
 use Rattle.mlt_tx_two_records.proofs.Names.{cases_eq, cases_lt, false≢true, is_kept, Page, Slot, Free, BucketFields, with_slot, ObjReply, Request, bucket_of, own_or_clean, ReadsHeldBucket, View, WriteFields, KeepsNoMore, PairFields, slot_after, WalkContext, StoodBefore, Change, ChangesBoth, HasToldFirst, OwesEither, OwesOne, PlansRecord, WritesRecord}
 use Rattle.std.proofs.lemmas.List.{set_past}
 use Rattle.mlt_page_subtx.proofs.ImageLaws.{not_true}
-use Rattle.mlt_hash_pair.specs.Descents.{page_of}
-use Rattle.mlt_hash_pair.proofs.Laws.{owners_close}
+use Rattle.mlt_hash_pair.{specs.Descents.page_of, proofs.Laws.owners_close}
 use Rattle.mlt_tx_two_records.proofs.Planning.{reads_written}
 
 -- what stood in a slot is what stands there by those that are open now, if its room is not kept now where it was not before

@@ -2,17 +2,9 @@
 use Rattle.std.proofs.Common.{◌≡◌, ℕ, ◌≤◌, Option, None, Some, refl, sym, ap, subst, ◌∙◌, inr, arith}
 use Rattle.std.specs.FinMap as map
 use Rattle.mlt_tx_two_records.proofs.Names.{ObjReply, Request, CanChange, IsPossible, decision, size_decision, target_of, page_count, look_up, Agrees, LocalState, Leaves, LocksAtMost, TakesTurn, view_of, step_keeps_tx, lock_and_write_touch, step_turns, agrees, WriteFields, IsFound, PairFields, later_page, IsThere, found_of, Descent, both_there, holds_read, WalkContext, First, MayActOnBoth, Writes, HasGhostOn, MayGoOn, HasKeys, HasToldFirst, OwesOne}
-use Rattle.mlt_hash_access.specs.PageSteps.{WritesHeldSlot}
-use Rattle.mlt_hash_access.proofs.Views.{write_writes}
-use Rattle.mlt_hash_pair.specs.Changes.{HoldsOn}
-use Rattle.mlt_hash_pair.specs.Pairs.{least_steps, mode_next, most_steps}
-use Rattle.mlt_hash_pair.specs.Steps.{GoesOn, HasFound, TellsOfStep}
-use Rattle.mlt_hash_pair.specs.declared.answer.PairAnswer.{PairAnswer}
-use Rattle.mlt_tx_two_records.specs.declared.first.FirstAnswer.{FirstAnswer}
-use Rattle.mlt_tx_two_records.specs.AtBuckets.{TellsAtBuckets}
-use Rattle.mlt_tx_two_records.specs.FirstPass.{TellsOfFirst, WasLast}
-use Rattle.mlt_tx_two_records.proofs.Asking.{revives_whatever}
-use Rattle.mlt_tx_two_records.proofs.FirstChanges.{owed_made, told_both}
+use Rattle.mlt_hash_access.{specs.PageSteps.WritesHeldSlot, proofs.Views.write_writes}
+use Rattle.mlt_hash_pair.specs.{Changes.HoldsOn, Pairs.least_steps, Pairs.mode_next, Pairs.most_steps, Steps.GoesOn, Steps.HasFound, Steps.TellsOfStep, declared.answer.PairAnswer.PairAnswer}
+use Rattle.mlt_tx_two_records.{specs.declared.first.FirstAnswer.FirstAnswer, specs.AtBuckets.TellsAtBuckets, specs.FirstPass.TellsOfFirst, specs.FirstPass.WasLast, proofs.Asking.revives_whatever, proofs.FirstChanges.owed_made, proofs.FirstChanges.told_both}
 
 -- few pages are held where a pair's are
 few_pages : (old new : LocalState) → new.running.tx ≡ old.running.tx → map.len (view_of new).modes ≤ 5 → page_count new.locks old.running.tx ≤ 300

@@ -2,21 +2,11 @@
 use Rattle.std.proofs.Common.{◌≡◌, ◌≢◌, ℕ, ◌<◌, ◌≤◌, List, Option, None, Some, is_some, true, refl, sym, ap, subst, ◌∙◌, inl, inr, slice_index_or, unwrap_or}
 use Rattle.mlt_tx_two_records.proofs.Names.{cases_eq, false≢true, Page, Slot, Free, BucketFields, ObjReply, RecChange, Request, decision, size_decision, target_of, FilePages, HasForm, depth_of, header_of, lead_of, look_up, Agrees, over, own_or_clean, View, rebased, WriteFields, planned_page, IsHolding, PairFields, found_of, both_there, both_lead, slot_after, WalkContext, Before, IsChanged, Stands, StoodBefore, WalkFields, context_after, one_key, Change, Phase, found_still, TwoRecordWalk, First, Owing, Wide, WideStage, IsTold, ChangesBoth, HasToldFirst, Performs, WritesRecord, HasPutOwn, HasToldBoth, HasToldPresent}
 use Rattle.mlt_page.specs.declared.slot.Slot.TheVariants.{Live, Ghost}
-use Rattle.mlt_hash_form.specs.Changes.{ChangesRecord, IsHome, slot_change}
-use Rattle.mlt_hash_form.specs.File.{GivesPseudokeys, Writes}
-use Rattle.mlt_hash_form.specs.Held.{RearrangesSlots, SeenPages}
-use Rattle.mlt_hash_form.proofs.HeldPages.{kept_values, keeps_more}
-use Rattle.mlt_hash_form.proofs.SingleChanges.{put_changes, revive_changes, set_value_changes, to_ghost_changes}
-use Rattle.mlt_hash_access.specs.Views.{seen_with}
-use Rattle.mlt_hash_access.proofs.Views.{writes_over_clean}
-use Rattle.mlt_hash_pair.specs.Descents.{page_of}
-use Rattle.mlt_hash_pair.proofs.Readings.{read_still}
-use Rattle.mlt_hash.specs.Passes.{value_after}
-use Rattle.mlt_hash.specs.Walks.{FoundBefore, IsAtBucket}
-use Rattle.mlt_hash.specs.declared.pass.Change.TheVariants.{Put, Revive, Set, Remove}
-use Rattle.mlt_hash.proofs.Passed.{read_at_bucket}
-use Rattle.mlt_tx_two_records.specs.FirstPass.{ChangesNone}
-use Rattle.mlt_tx_two_records.specs.Leaving.{LeavesAll, LeavesAsTold, LeavesBoth, LeavesRecord}
+use Rattle.mlt_hash_form.{specs.Changes.ChangesRecord, specs.Changes.IsHome, specs.Changes.slot_change, specs.File.GivesPseudokeys, specs.File.Writes, specs.Held.RearrangesSlots, specs.Held.SeenPages, proofs.HeldPages.kept_values, proofs.HeldPages.keeps_more, proofs.SingleChanges.put_changes, proofs.SingleChanges.revive_changes, proofs.SingleChanges.set_value_changes, proofs.SingleChanges.to_ghost_changes}
+use Rattle.mlt_hash_access.{specs.Views.seen_with, proofs.Views.writes_over_clean}
+use Rattle.mlt_hash_pair.{specs.Descents.page_of, proofs.Readings.read_still}
+use Rattle.mlt_hash.{specs.Passes.value_after, specs.Walks.FoundBefore, specs.Walks.IsAtBucket, specs.declared.pass.Change.TheVariants.Put, specs.declared.pass.Change.TheVariants.Revive, specs.declared.pass.Change.TheVariants.Set, specs.declared.pass.Change.TheVariants.Remove, proofs.Passed.read_at_bucket}
+use Rattle.mlt_tx_two_records.specs.{FirstPass.ChangesNone, Leaving.LeavesAll, Leaving.LeavesAsTold, Leaving.LeavesBoth, Leaving.LeavesRecord}
 
 -- ---- one slot that is set
 

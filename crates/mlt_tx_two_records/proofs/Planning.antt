@@ -4,14 +4,9 @@ use Rattle.std.specs.FinSet as set
 use Rattle.mlt_tx_two_records.proofs.Names.{cases_eq, false≢true, none-some, is_ghost_of, is_kept, Page, Slot, Free, BucketFields, with_slot, RecChange, Add, Set, ToGhost, Revive, Plus, Minus, CanChange, own_or_clean, ReadsHeldBucket, View, WritesPage, WriteFields, planned_page, FitsFound, IsThere, found_of, RecordChange, Descent, slot_after, WalkContext, StoodBefore, Change, nowhere_found, Performs, asked_of, PlansRecord, WritesRecord}
 use Rattle.std.proofs.lemmas.Bool.{not-true}
 use Rattle.mlt_page.specs.Slots.{is_live_of}
-use Rattle.mlt_hash_form.specs.Form.{slot_value, value_in}
+use Rattle.mlt_hash_form.specs.{Form.slot_value, Form.value_in, Plans.IsNowhere, Plans.SetsFirst, Plans.has_room}
 use Rattle.mlt_hash_access.specs.Views.{IsUnwritten}
-use Rattle.mlt_hash_form.specs.Plans.{IsNowhere, SetsFirst, has_room}
-use Rattle.mlt_hash_pair.specs.Changes.{MakesChange, OwesChange}
-use Rattle.mlt_hash_pair.specs.Plans.{FitsSlots, IsPlan}
-use Rattle.mlt_hash_pair.specs.Descents.{HasRead, page_of}
-use Rattle.mlt_hash_pair.proofs.Makes.{one_reading}
-use Rattle.mlt_hash_pair.proofs.Slots.{absent_place, fits_after, fits_slots}
+use Rattle.mlt_hash_pair.{specs.Changes.MakesChange, specs.Changes.OwesChange, specs.Plans.FitsSlots, specs.Plans.IsPlan, specs.Descents.HasRead, specs.Descents.page_of, proofs.Makes.one_reading, proofs.Slots.absent_place, proofs.Slots.fits_after, proofs.Slots.fits_slots}
 
 -- what is asked of a key's record fits its bucket, as that reads
 abbrev pub FitsThere : Option RecordChange → ℕ → ℕ → View → Type 0

@@ -2,13 +2,10 @@
 use Rattle.std.proofs.Common.{◌≡◌, subst, ap, ◌∙◌, arith}
 use Rattle.std.specs.FinMap as map
 use Rattle.std.proofs.lemmas.Bool.Decides.{nat_tests}
-use Rattle.mlt_page_locks.specs.LockTables.{LockTable, pages_of}
-use Rattle.mlt_page_locks.specs.Requests.{released}
-use Rattle.mlt_page_locks.proofs.LockLaws.{pages_of-released}
+use Rattle.mlt_page_locks.{specs.LockTables.LockTable, specs.LockTables.pages_of, specs.Requests.released, proofs.LockLaws.pages_of-released}
 use Rattle.mlt_page_subtx.specs.Images.{Running, put_back, started}
 use Rattle.mlt_tx_two_records.proofs.Names.{LocalState, IsRolledBack, view_of}
-use Rattle.mlt_hash.specs.Walks.{IsAtStart}
-use Rattle.mlt_hash.proofs.Laws.{at_start}
+use Rattle.mlt_hash.{specs.Walks.IsAtStart, proofs.Laws.at_start}
 
 -- a state is rolled back, to what the parts say
 pub rolls_back : (m old new : LocalState) → old ≡ m → new.store ≡ record old.store { pages = put_back old.running.images old.store.pages }

@@ -3,8 +3,7 @@ use Rattle.std.proofs.Common.{◌≡◌, ◌<◌, true, arith, nat_cmp}
 use Rattle.std.specs.FinMap as map
 use Rattle.std.specs.FinSet as set
 use Rattle.mlt_tx_two_records.proofs.Names.{ObjReply, Request, FilePages, HasForm, Agrees, over, View, rebased, KeepsNoMore, WalkContext, context_after, one_key, standing_holds_few, TwoRecordWalk, First, Owing, Wide, WideStage, IsTold}
-use Rattle.mlt_tx_two_records.specs.TwoRecordWalks.{Stands}
-use Rattle.mlt_tx_two_records.proofs.FirstLaws.{owes_fewer, told_fewer}
+use Rattle.mlt_tx_two_records.{specs.TwoRecordWalks.Stands, proofs.FirstLaws.owes_fewer, proofs.FirstLaws.told_fewer}
 use Rattle.mlt_tx_two_records.proofs.WideOwners.{agreed_since, form_since, own_still, present_still, size_still, told_both_still}
 
 module _ (context : WalkContext) (fewer : set.FinSet nat_cmp) (request : Request) (view : View) (clean : FilePages) (no_more : KeepsNoMore context.active fewer view) (is_open : set.contains context.active context.tx ≡ true)

@@ -1,15 +1,8 @@
 -- Operations on two records come to an end
 use Rattle.std.proofs.Common.{ℕ, ◌≡◌, ◌≤◌, ◌<◌, ◌+◌, ◌-◌, true, nat_eq, ap, subst, ◌∙◌, inl, inr, arith, eq-eqb, ne_eqb}
 use Rattle.mlt_tx_two_records.proofs.Names.{cases_lt, cond-false, cond-true, ObjReply, Request, header_of, LocalState, HasWritten, View, view_of, nothing_written, page_of, steps_to_bucket, bucket_depth, directory_depth, steps_to_put, steps_to_put_at, WalkContext, Stands, WalkFields, context_after, one_key, view_for, Pass, Phase, put_on_way, TwoRecordAnswer, TwoRecordWalk, First, Owing, Wide, WideStage, TellsOfTwoRecords, GoesNearer}
-use Rattle.mlt_hash.specs.StepsLeft.{steps_of_splits}
-use Rattle.mlt_hash.specs.Walks.{IsAdding}
-use Rattle.mlt_hash.proofs.StepsLeft.{put_is_left}
-use Rattle.mlt_tx_two_records.specs.TwoRecordWalks.{most_to_change, most_to_put, steps_of_two_records}
-use Rattle.mlt_tx_two_records.specs.WalkSteps.{BeginsToSplit}
-use Rattle.mlt_tx_two_records.specs.WidePass.{HasChangedNow, WalksOn}
-use Rattle.mlt_tx_two_records.proofs.SplitSteps.{few_splits}
-use Rattle.mlt_tx_two_records.proofs.WideDepths.{reads_alike}
-use Rattle.mlt_tx_two_records.proofs.WideOwn.{not_first}
+use Rattle.mlt_hash.{specs.StepsLeft.steps_of_splits, specs.Walks.IsAdding, proofs.StepsLeft.put_is_left}
+use Rattle.mlt_tx_two_records.{specs.TwoRecordWalks.most_to_change, specs.TwoRecordWalks.most_to_put, specs.TwoRecordWalks.steps_of_two_records, specs.WalkSteps.BeginsToSplit, specs.WidePass.HasChangedNow, specs.WidePass.WalksOn, proofs.SplitSteps.few_splits, proofs.WideDepths.reads_alike, proofs.WideOwn.not_first}
 
 -- ---- one walk
 

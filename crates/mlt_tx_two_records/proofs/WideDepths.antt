@@ -2,12 +2,8 @@
 use Rattle.std.proofs.Common.{ℕ, ◌≡◌, ◌<◌, ◌+◌, ◌-◌, Bool, Option, Some, refl, sym, ◌∙◌, ap, subst, inl, inr, eq-eqb, ne_eqb}
 use Rattle.mlt_tx_two_records.proofs.Names.{cases_eq, cond-false, cond-true, Page, HasForm, bucket_of, header_of, Agrees, LocalState, HasWritten, view_of, TellsAt, IsPutting, bucket_depth, depth_after, directory_depth, steps_to_put_at, WalkContext, Stands, WalkFields, view_for, WalkAnswer, Phase}
 use Rattle.mlt_hash_access.proofs.Since.{read_over_writes}
-use Rattle.mlt_hash_split.specs.Rests.{held_page}
-use Rattle.mlt_hash_split.specs.Splits.{SplitFields}
-use Rattle.mlt_hash.specs.Splitting.{BeginsSplit, SplitCloses, SplitGoesOn, walk_step}
-use Rattle.mlt_hash.specs.StepsLeft.{steps_of_splits}
-use Rattle.mlt_hash.specs.Walks.{IsSplitting}
-use Rattle.mlt_hash.proofs.StepsLeft.{some_is_one}
+use Rattle.mlt_hash_split.specs.{Rests.held_page, Splits.SplitFields}
+use Rattle.mlt_hash.{specs.Splitting.BeginsSplit, specs.Splitting.SplitCloses, specs.Splitting.SplitGoesOn, specs.Splitting.walk_step, specs.StepsLeft.steps_of_splits, specs.Walks.IsSplitting, proofs.StepsLeft.some_is_one}
 use Rattle.mlt_tx_two_records.specs.Depths.{GoesDown, depths_at, depths_with_split}
 
 -- ---- what a walk sees over what was written before it reads as it reads without

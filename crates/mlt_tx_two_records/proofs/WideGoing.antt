@@ -2,8 +2,7 @@
 use Rattle.std.proofs.Common.{◌≡◌, ℕ, ◌<◌, false, refl, sym, subst, inl, inr, arith}
 use Rattle.mlt_tx_two_records.proofs.Names.{LocalState, Leaves, view_of, written_stays, Makes, IsUnderWay, TellsAt, GoesOn, IsSameWalk, steps_to_bucket, IsPutting, steps_to_put, WalkContext, IsStanding, MayWalk, WalkFields, view_for, WalkAnswer, Change, Phase, put_on_way, GoesNearer, PutsThen}
 use Rattle.mlt_hash.proofs.StepsLeft.{one_fewer}
-use Rattle.mlt_tx_two_records.proofs.WideDepths.{goes_down, same_steps}
-use Rattle.mlt_tx_two_records.proofs.WideTurns.{agrees_after, clean_agrees, clean_over}
+use Rattle.mlt_tx_two_records.proofs.{WideDepths.goes_down, WideDepths.same_steps, WideTurns.agrees_after, WideTurns.clean_agrees, WideTurns.clean_over}
 
 -- on the way to the bucket there is a next step, and nothing to be put yet
 under_way_there : (p : Phase) → 0 < steps_to_bucket p → IsUnderWay p

@@ -1,8 +1,7 @@
 -- A wide pass that has put its own record goes on to the key of the size
 use Rattle.std.proofs.Common.{◌≡◌, ℕ, None, Some, refl, sym, ap, subst, ◌∙◌}
 use Rattle.mlt_tx_two_records.proofs.Names.{Exclusive, Request, size_key_of, target_of, LocalState, view_of, same_some, WalkContext, Before, IsChanged, MayWalk, Stands, WalkFields, context_after, one_key, IsUnderWay, Phase, HasKeys, HasJustPut, HasPutOwn, IsGoingToSize, PutsSize, PutsThen}
-use Rattle.mlt_hash.specs.Walks.{SlotsStood, before_of, nothing_before}
-use Rattle.mlt_hash.specs.Changes.{IsChangedPhase}
+use Rattle.mlt_hash.specs.{Walks.SlotsStood, Walks.before_of, Walks.nothing_before, Changes.IsChangedPhase}
 
 module _ (context : WalkContext) (m : LocalState) (request : Request) (walk : WalkFields) (just : HasJustPut context m request walk) where
   -- It may go on,

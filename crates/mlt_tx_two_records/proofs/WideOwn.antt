@@ -2,9 +2,7 @@
 use Rattle.std.proofs.Common.{◌≡◌, ℕ, Option, None, Some, refl, sym, ap, subst, ◌∙◌, inl, inr}
 use Rattle.mlt_tx_two_records.proofs.Names.{Refusal, ObjReply, RecChange, Add, Request, decision, target_of, LocalState, Leaves, IsRolledBack, view_of, HasNoRoom, Makes, MayChange, NeedsSplit, TellsOfAddition, page_of, IsUnderWay, HasFound, IsSameWalk, WalkContext, WalkFields, one_key, WalkAnswer, Change, Pass, Phase, TwoRecordAnswer, WideStage, HasJustPut, MayActOnOwn, MayWalkToOwn, TellsAtOwn, HasKeys, Performs, HasToldPresent, IsGoingToOwn, IsWideTo, PutsOwn, PutsThen}
 use Rattle.mlt_hash.specs.Changes.{IsAtAbsent}
-use Rattle.mlt_tx_two_records.specs.AtWideBuckets.{IsToSplit}
-use Rattle.mlt_tx_two_records.proofs.WideDeciding.{own_change, own_present}
-use Rattle.mlt_tx_two_records.proofs.WideTurns.{walks_on}
+use Rattle.mlt_tx_two_records.{specs.AtWideBuckets.IsToSplit, proofs.WideDeciding.own_change, proofs.WideDeciding.own_present, proofs.WideTurns.walks_on}
 
 -- ---- a walk of a wide pass after a step or a change
 

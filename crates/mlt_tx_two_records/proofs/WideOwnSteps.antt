@@ -1,11 +1,7 @@
 -- What a step of a wide pass to its own key tells
 use Rattle.std.proofs.Common.{◌≡◌, ℕ, Option, None, refl, sym, ap, subst, ◌∙◌, inl, inr}
 use Rattle.mlt_tx_two_records.proofs.Names.{Refusal, ObjReply, Request, target_of, LocalState, Leaves, LocksAtMost, IsRolledBack, TakesTurn, view_of, nothing_written, page_of, TellsAt, GoesOn, HasFound, IsSameWalk, steps_to_bucket, WalkContext, IsStanding, MayWalk, WalkFields, one_key, WalkAnswer, Change, Phase, Wide, TwoRecordAnswer, WideStage, TellsOfTwoRecords, HasJustPut, MayActOnOwn, MayWalkToOwn, TellsAtOwn, MayGoOn, ReachesBucket, IsGoingToSize, PutsOwn, PutsThen}
-use Rattle.mlt_tx_two_records.specs.WidePass.{CauseAtOwn, OwnRefused}
-use Rattle.mlt_tx_two_records.proofs.WideGoing.{goes_further, puts_behind, puts_still}
-use Rattle.mlt_tx_two_records.proofs.WideOwn.{not_first, same_keys, still_wide}
-use Rattle.mlt_tx_two_records.proofs.WideTelling.{IsWhy, found_by_path, reaches, was_last}
-use Rattle.mlt_tx_two_records.proofs.WideTurns.{lock_and_write_turn, one_step_turns, walks_on}
+use Rattle.mlt_tx_two_records.{specs.WidePass.CauseAtOwn, specs.WidePass.OwnRefused, proofs.WideGoing.goes_further, proofs.WideGoing.puts_behind, proofs.WideGoing.puts_still, proofs.WideOwn.not_first, proofs.WideOwn.same_keys, proofs.WideOwn.still_wide, proofs.WideTelling.IsWhy, proofs.WideTelling.found_by_path, proofs.WideTelling.reaches, proofs.WideTelling.was_last, proofs.WideTurns.lock_and_write_turn, proofs.WideTurns.one_step_turns, proofs.WideTurns.walks_on}
 
 module _ (context : WalkContext) (old : LocalState) (request : Request) (before : WalkFields) (may : MayGoOn context old request (Wide WideStage.Own before)) where
   -- **It may take its step.**

@@ -3,9 +3,7 @@ use Rattle.std.proofs.Common.{◌≡◌, true, sym, subst, nat_cmp}
 use Rattle.std.specs.FinSet as set
 use Rattle.mlt_tx_two_records.proofs.Names.{ObjReply, Request, FilePages, HasForm, Agrees, over, View, rebased, KeepsNoMore, WalkContext, Before, IsChanged, IsStanding, Stands, WalkFields, context_after, one_key, Phase, HasPutOwn, HasToldBoth, HasToldPresent, IsGoingToOwn, IsGoingToSize}
 use Rattle.mlt_hash_access.proofs.Rebased.{rebased_agrees}
-use Rattle.mlt_hash.proofs.Owners.{stands_still}
-use Rattle.mlt_hash.proofs.Passed.{read_as}
-use Rattle.mlt_hash.proofs.Stood.{keeps_no_more_written}
+use Rattle.mlt_hash.proofs.{Owners.stands_still, Passed.read_as, Stood.keeps_no_more_written}
 
 -- **What was put for the own record leaves a hash file, whatever the clean pages are elsewhere.**
 module _ (context : WalkContext) (request : Request) (view : View) (since : Before) (clean : FilePages) (put : HasPutOwn context request view since) (agree : Agrees view.seen clean) (form : HasForm context.bits clean context.root) where

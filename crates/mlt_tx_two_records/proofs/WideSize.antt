@@ -1,15 +1,9 @@
 -- What a wide pass does at the bucket of the size's key, over what it wrote for the own one
 use Rattle.std.proofs.Common.{◌≡◌, ℕ, None, Option, Some, refl, sym, ap, subst, ◌∙◌, inr}
 use Rattle.mlt_tx_two_records.proofs.Names.{Refusal, Page, ObjReply, RecChange, Add, Plus, Request, decision, size_decision, target_of, FilePages, look_up, Agrees, LocalState, Leaves, TouchesOnePage, IsRolledBack, View, rebased, view_of, written_stays, HasNoRoom, MayChange, NeedsSplit, page_of, IsUnderWay, HasFound, IsSameWalk, WalkContext, Before, HasRead, IsChanged, Stands, WalkFields, context_after, WalkAnswer, Phase, read_of, found_still, TwoRecordAnswer, MayActOnSize, Raises, TellsAtSize, TellsOfRaise, HasKeys, HasPutOwn, HasToldBoth, IsWideTo, PutsSize, PutsThen}
-use Rattle.mlt_hash_access.specs.LocalStates.{MayStep}
-use Rattle.mlt_hash_access.proofs.OwnSteps.{own_step_sees_more}
-use Rattle.mlt_hash.specs.Changes.{WritesIfChanged}
-use Rattle.mlt_hash.proofs.Laws.{found_there}
-use Rattle.mlt_hash.proofs.Stood.{still_stood}
-use Rattle.mlt_tx_two_records.specs.AtWideBuckets.{IsMade, OfAddition}
-use Rattle.mlt_tx_two_records.proofs.WideDeciding.{raises_size}
-use Rattle.mlt_tx_two_records.proofs.WideOwn.{absent_at, not_first}
-use Rattle.mlt_tx_two_records.proofs.WideTurns.{agrees_after, clean_agrees, clean_over}
+use Rattle.mlt_hash_access.{specs.LocalStates.MayStep, proofs.OwnSteps.own_step_sees_more}
+use Rattle.mlt_hash.{specs.Changes.WritesIfChanged, proofs.Laws.found_there, proofs.Stood.still_stood}
+use Rattle.mlt_tx_two_records.{specs.AtWideBuckets.IsMade, specs.AtWideBuckets.OfAddition, proofs.WideDeciding.raises_size, proofs.WideOwn.absent_at, proofs.WideOwn.not_first, proofs.WideTurns.agrees_after, proofs.WideTurns.clean_agrees, proofs.WideTurns.clean_over}
 
 -- **What was put is put still after a step.**
 abbrev pub put_still : (context : WalkContext) (request : Request) (since : Before) (old new : LocalState) → MayStep old → TouchesOnePage old new → HasPutOwn context request (view_of old) since → HasPutOwn context request (view_of new) since

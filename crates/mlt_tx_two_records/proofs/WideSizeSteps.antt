@@ -2,14 +2,8 @@
 use Rattle.std.proofs.Common.{◌≡◌, ℕ, ◌≤◌, None, Option, Some, true, is_some, refl, sym, ap, subst, ◌∙◌, inl, inr, arith}
 use Rattle.mlt_tx_two_records.proofs.Names.{Refusal, Page, ObjReply, RecChange, Add, Request, decision, size_decision, depth_of, header_of, Agrees, over, LocalState, Leaves, LocksAtMost, IsRolledBack, TakesTurn, view_of, agrees, NeedsSplit, page_of, HasToMake, TellsAt, GoesOn, HasFound, steps_to_bucket, WalkContext, Before, HasRead, IsChanged, MayWalk, Stands, WalkFields, context_after, one_key, view_for, WalkAnswer, Change, Phase, read_of, TwoRecordAnswer, Wide, WideStage, TellsOfTwoRecords, MayActOnSize, MayStepToSize, TellsAtSize, MayGoOn, HasPutOwn, PutsSize, PutsThen}
 use Rattle.mlt_hash_split.proofs.Closing.{held_page_over}
-use Rattle.mlt_tx_two_records.specs.AtWideBuckets.{RefusesAt}
-use Rattle.mlt_tx_two_records.specs.WidePass.{CauseAtSize, SizeRefused, SizeWalksOn}
-use Rattle.mlt_tx_two_records.proofs.WideGoing.{goes_further, puts_behind, puts_still}
-use Rattle.mlt_tx_two_records.proofs.WideOwn.{not_first}
-use Rattle.mlt_tx_two_records.proofs.WideOwners.{agreed_then, form_since}
-use Rattle.mlt_tx_two_records.proofs.WideSize.{put_still, size_keys, size_wide}
+use Rattle.mlt_tx_two_records.{specs.AtWideBuckets.RefusesAt, specs.WidePass.CauseAtSize, specs.WidePass.SizeRefused, specs.WidePass.SizeWalksOn, proofs.WideGoing.goes_further, proofs.WideGoing.puts_behind, proofs.WideGoing.puts_still, proofs.WideOwn.not_first, proofs.WideOwners.agreed_then, proofs.WideOwners.form_since, proofs.WideSize.put_still, proofs.WideSize.size_keys, proofs.WideSize.size_wide, proofs.WideTurns.lock_and_write_turn, proofs.WideTurns.one_step_turns, proofs.WideTurns.walks_on}
 use Rattle.mlt_tx_two_records.proofs.WideTelling.{IsWhy, found_by_path, reaches, waits, was_last}
-use Rattle.mlt_tx_two_records.proofs.WideTurns.{lock_and_write_turn, one_step_turns, walks_on}
 
 -- ---- what the pass did before it went on to this key
 

@@ -2,8 +2,7 @@
 use Rattle.std.proofs.Common.{◌≡◌, ◌⊎◌, ℕ, ◌↔◌, None, Option, refl, sym, ap, subst, ◌∙◌, inl, inr, arith}
 use Rattle.mlt_tx_two_records.proofs.Names.{Exclusive, Refusal, LocalState, HasToMake, TellsAt, GoesOn, HasFound, steps_to_bucket, WalkContext, WalkFields, view_for, WalkAnswer, Phase, ReachesBucket}
 use Rattle.mlt_hash_access.specs.PageSteps.{HasNoPageLeft}
-use Rattle.mlt_hash.specs.Steps.{next_mode, next_page}
-use Rattle.mlt_hash.proofs.Splittings.{none_left}
+use Rattle.mlt_hash.{specs.Steps.next_mode, specs.Steps.next_page, proofs.Splittings.none_left}
 use Rattle.mlt_tx_two_records.specs.WalkSteps.{AsksForAt, LacksPage, WalkWaits}
 
 -- **What it waits for**

@@ -1,9 +1,7 @@
 -- What a step of a walk is, or one that locks its bucket and a write of it, seen as one turn: over whatever was written before
 use Rattle.std.proofs.Common.{ℕ, ◌<◌, arith}
 use Rattle.mlt_tx_two_records.proofs.Names.{FilePages, Agrees, over, page_count, LocalState, Leaves, LocksAtMost, TouchesOnePage, TakesTurn, written_stays, lock_and_write_touch, step_turns, WalkContext, IsStanding, MayWalk, WalkFields, view_for, standing_holds_few}
-use Rattle.mlt_hash_access.specs.PageSteps.{WritesAtMost}
-use Rattle.mlt_hash_access.proofs.Since.{agrees_over}
-use Rattle.mlt_hash_access.proofs.AllEvents.{step_adds_one_page}
+use Rattle.mlt_hash_access.{specs.PageSteps.WritesAtMost, proofs.Since.agrees_over, proofs.AllEvents.step_adds_one_page}
 
 -- the clean pages, with what was written before over them, agree with what is seen
 abbrev pub clean_over : (context : WalkContext) (m : LocalState) (walk : WalkFields) → MayWalk context m walk → FilePages

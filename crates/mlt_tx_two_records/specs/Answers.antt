@@ -1,20 +1,10 @@
 -- What a step of an operation on two records tells
 use Rattle.std.specs.Prelude.{ℕ, ◌≡◌}
 use Rattle.mlt_types.specs.declared.refusal.Refusal.{Refusal}
-use Rattle.mlt_object_base.specs.declared.request.Request.{Request}
-use Rattle.mlt_object_base.specs.Requests.{target_of}
-use Rattle.mlt_hash_access.specs.LocalStates.{LocalState}
-use Rattle.mlt_hash_access.specs.PageTurns.{TakesTurn}
-use Rattle.mlt_hash_access.specs.Views.{view_of}
-use Rattle.mlt_hash.specs.Steps.{steps_to_bucket}
-use Rattle.mlt_hash.specs.Walks.{WalkContext, one_key}
-use Rattle.mlt_tx_two_records.specs.declared.answer.TwoRecordAnswer.{TwoRecordAnswer}
-use Rattle.mlt_tx_two_records.specs.declared.two_records.TwoRecordWalk.{TwoRecordWalk}
-use Rattle.mlt_tx_two_records.specs.declared.two_records.TwoRecordWalk.TheVariants.{First, Owing, Wide}
-use Rattle.mlt_tx_two_records.specs.declared.two_records.WideStage.{WideStage}
-use Rattle.mlt_tx_two_records.specs.TwoRecordWalks.{IsTold, Stands}
-use Rattle.mlt_tx_two_records.specs.FirstPass.{FindsNoRoom, PairWaits, StepsToBuckets, WasLast}
-use Rattle.mlt_tx_two_records.specs.WalkSteps.{WalkWaits}
+use Rattle.mlt_object_base.specs.{declared.request.Request.Request, Requests.target_of}
+use Rattle.mlt_hash_access.specs.{LocalStates.LocalState, PageTurns.TakesTurn, Views.view_of}
+use Rattle.mlt_hash.specs.{Steps.steps_to_bucket, Walks.WalkContext, Walks.one_key}
+use Rattle.mlt_tx_two_records.specs.{declared.answer.TwoRecordAnswer.TwoRecordAnswer, declared.two_records.TwoRecordWalk.TwoRecordWalk, declared.two_records.TwoRecordWalk.TheVariants.First, declared.two_records.TwoRecordWalk.TheVariants.Owing, declared.two_records.TwoRecordWalk.TheVariants.Wide, declared.two_records.WideStage.WideStage, TwoRecordWalks.IsTold, TwoRecordWalks.Stands, FirstPass.FindsNoRoom, FirstPass.PairWaits, FirstPass.StepsToBuckets, FirstPass.WasLast, WalkSteps.WalkWaits}
 use Rattle.mlt_tx_two_records.specs.WidePass.{GoesOver, HasChangedNow, OwnRefused, SizeRefused, SizeWaits, SizeWalksOn, WalksOn, wide_to}
 
 -- How it goes on: one step nearer in its pass; from the later bucket of the first pass to the earlier one; from the first pass to

@@ -1,22 +1,13 @@
 -- What a first pass does once it has found both keys
 use Rattle.std.specs.Prelude.{ℕ, ◌≡◌, Option, Some}
 use Rattle.mlt_object_kinds.specs.declared.operation.ObjReply.{ObjReply}
-use Rattle.mlt_object_base.specs.declared.record.RecChange.TheVariants.{Revive}
-use Rattle.mlt_object_base.specs.declared.request.Request.{Request}
-use Rattle.mlt_object_base.specs.Records.{CanChange}
-use Rattle.mlt_object_base.specs.Requests.{IsPossible, decision, size_decision}
+use Rattle.mlt_object_base.specs.{declared.record.RecChange.TheVariants.Revive, declared.request.Request.Request, Records.CanChange, Requests.IsPossible, Requests.decision, Requests.size_decision}
 use Rattle.mlt_hash_form.specs.File.{GivesPseudokeys}
-use Rattle.mlt_hash_access.specs.LocalStates.{HasCleanFile, MayStep, LocalState}
-use Rattle.mlt_hash_access.specs.PageSteps.{Leaves, WritesAtMost}
-use Rattle.mlt_hash_access.specs.PageTurns.{IsRolledBack}
-use Rattle.mlt_hash_access.specs.Views.{view_of}
-use Rattle.mlt_hash_pair.specs.Pairs.{IsFinding, IsFound, PairFields, later_page}
-use Rattle.mlt_hash_pair.specs.Descents.{found_of}
+use Rattle.mlt_hash_access.specs.{LocalStates.HasCleanFile, LocalStates.MayStep, LocalStates.LocalState, PageSteps.Leaves, PageSteps.WritesAtMost, PageTurns.IsRolledBack, Views.view_of}
+use Rattle.mlt_hash_pair.specs.{Pairs.IsFinding, Pairs.IsFound, Pairs.PairFields, Pairs.later_page, Descents.found_of}
 use Rattle.mlt_hash.specs.Walks.{WalkContext, IsAtStart}
-use Rattle.mlt_tx_two_records.specs.declared.first.FirstAnswer.{FirstAnswer}
-use Rattle.mlt_tx_two_records.specs.TwoRecordWalks.{HasGhostOn}
+use Rattle.mlt_tx_two_records.specs.{declared.first.FirstAnswer.FirstAnswer, TwoRecordWalks.HasGhostOn, Performing.AddsElement}
 use Rattle.mlt_tx_two_records.specs.FirstPass.{AsksForBoth, HasFullBucket, HasKeys, HasToldFirst, OwesOne, task_for}
-use Rattle.mlt_tx_two_records.specs.Performing.{AddsElement}
 
 -- Both keys are found, nothing is written, and what was found can be changed as is asked.
 pub record MayActOnBoth (context : WalkContext) (m : LocalState) (request : Request) (pair : PairFields)

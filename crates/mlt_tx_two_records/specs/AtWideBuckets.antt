@@ -2,25 +2,11 @@
 use Rattle.std.specs.Prelude.{ℕ, ◌≡◌, None, Option, Some}
 use Rattle.mlt_types.specs.declared.refusal.Refusal.{Refusal}
 use Rattle.mlt_object_kinds.specs.declared.operation.ObjReply.{ObjReply}
-use Rattle.mlt_object_base.specs.declared.record.RecChange.{RecChange}
-use Rattle.mlt_object_base.specs.declared.record.RecChange.TheVariants.{Add, Plus}
-use Rattle.mlt_object_base.specs.declared.request.Request.{Request}
-use Rattle.mlt_object_base.specs.Requests.{target_of}
-use Rattle.mlt_hash_access.specs.LocalStates.{LocalState}
-use Rattle.mlt_hash_access.specs.PageTurns.{IsRolledBack}
-use Rattle.mlt_hash_access.specs.Views.{view_of}
-use Rattle.mlt_hash.specs.Changes.{HasNoRoom, Makes, NeedsSplit, page_of}
-use Rattle.mlt_hash.specs.Splitting.{IsUnderWay}
-use Rattle.mlt_hash.specs.Steps.{HasFound, steps_to_bucket}
+use Rattle.mlt_object_base.specs.{declared.record.RecChange.RecChange, declared.record.RecChange.TheVariants.Add, declared.record.RecChange.TheVariants.Plus, declared.request.Request.Request, Requests.target_of}
+use Rattle.mlt_hash_access.specs.{LocalStates.LocalState, PageTurns.IsRolledBack, Views.view_of}
+use Rattle.mlt_hash.specs.{Changes.HasNoRoom, Changes.Makes, Changes.NeedsSplit, Changes.page_of, Splitting.IsUnderWay, Steps.HasFound, Steps.steps_to_bucket, declared.answer.WalkAnswer.WalkAnswer, declared.pass.Change.Change, declared.pass.Phase.Phase}
 use Rattle.mlt_hash.specs.Walks.{WalkContext, Before, MayWalk, WalkFields, context_after, one_key}
-use Rattle.mlt_hash.specs.declared.answer.WalkAnswer.{WalkAnswer}
-use Rattle.mlt_hash.specs.declared.pass.Change.{Change}
-use Rattle.mlt_hash.specs.declared.pass.Phase.{Phase}
-use Rattle.mlt_tx_two_records.specs.declared.answer.TwoRecordAnswer.{TwoRecordAnswer}
-use Rattle.mlt_tx_two_records.specs.declared.two_records.WideStage.{WideStage}
-use Rattle.mlt_tx_two_records.specs.AtBuckets.{Writes}
-use Rattle.mlt_tx_two_records.specs.FirstPass.{HasKeys}
-use Rattle.mlt_tx_two_records.specs.Performing.{AddsElement, Performs}
+use Rattle.mlt_tx_two_records.specs.{declared.answer.TwoRecordAnswer.TwoRecordAnswer, declared.two_records.WideStage.WideStage, AtBuckets.Writes, FirstPass.HasKeys, Performing.AddsElement, Performing.Performs}
 use Rattle.mlt_tx_two_records.specs.WidePass.{HasPutOwn, HasToldBoth, HasToldPresent, IsGoingToOwn, IsGoingToSize, IsWideTo, PutsOwn, PutsSize, PutsThen}
 
 -- A walk of a wide pass to its own key, which may go on.

@@ -2,9 +2,7 @@
 use Rattle.std.specs.Prelude.{ℕ, ◌≡◌, ◌<◌, ◌+◌, ◌⊎◌, Option, None, Some}
 use Rattle.mlt_hash_access.specs.Views.{View}
 use Rattle.mlt_hash_split.specs.Splits.{SplitFields}
-use Rattle.mlt_hash.specs.StepsLeft.{bucket_depth, depth_after, directory_depth}
-use Rattle.mlt_hash.specs.Walks.{WalkFields}
-use Rattle.mlt_hash.specs.declared.pass.Phase.{Phase}
+use Rattle.mlt_hash.specs.{StepsLeft.bucket_depth, StepsLeft.depth_after, StepsLeft.directory_depth, Walks.WalkFields, declared.pass.Phase.Phase}
 
 -- Down to which depth a walk splits its bucket. And how deep the bucket is, and the directory: before the split that is under
 -- way, where one is.

@@ -1,23 +1,15 @@
 -- The first pass of an operation on two records: where it stands, and what its steps tell
 use Rattle.std.specs.Prelude.{ℕ, ◌≡◌, ◌≢◌, ◌≤◌, ◌+◌, ◌⊎◌, Option, None, Some}
 use Rattle.mlt_object_kinds.specs.declared.operation.ObjReply.{ObjReply}
-use Rattle.mlt_object_base.specs.declared.record.RecChange.{RecChange}
-use Rattle.mlt_object_base.specs.declared.request.Request.{Request}
-use Rattle.mlt_object_base.specs.Requests.{decision, size_decision, size_key_of, target_of}
+use Rattle.mlt_object_base.specs.{declared.record.RecChange.RecChange, declared.request.Request.Request, Requests.decision, Requests.size_decision, Requests.size_key_of, Requests.target_of}
 use Rattle.mlt_page_locks.specs.Requests.{IsLowest, conflicts}
-use Rattle.mlt_hash_access.specs.LocalStates.{LocalState}
-use Rattle.mlt_hash_access.specs.PageTurns.{TakesTurn, TurnsBack}
-use Rattle.mlt_hash_access.specs.Views.{IsUnwritten, View, view_of}
+use Rattle.mlt_hash_access.specs.{LocalStates.LocalState, PageTurns.TakesTurn, PageTurns.TurnsBack, Views.IsUnwritten, Views.View, Views.view_of}
 use Rattle.mlt_hash_form.specs.Plans.{WriteFields}
 use Rattle.mlt_hash_pair.specs.Changes.{HasChanged, IsFull, IsFullBehind, IsHolding, Task, WritesBucketsAlone, task_of}
 use Rattle.mlt_hash_pair.specs.Pairs.{IsFinding, IsFound, IsUnderWay, PairFields, least_steps, mode_next, most_steps, page_next}
-use Rattle.mlt_hash_pair.specs.Descents.{found_of, page_of}
-use Rattle.mlt_hash_pair.specs.declared.asked.PairChanges.{PairChanges}
-use Rattle.mlt_hash.specs.Walks.{WalkContext, IsAtStart}
-use Rattle.mlt_hash.specs.declared.pass.Change.{Change}
-use Rattle.mlt_tx_two_records.specs.declared.first.FirstAnswer.{FirstAnswer}
-use Rattle.mlt_tx_two_records.specs.Performing.{AddsElement, Performs, asked_of}
-use Rattle.mlt_tx_two_records.specs.Records.{PlansRecord, WritesRecord}
+use Rattle.mlt_hash_pair.specs.{Descents.found_of, Descents.page_of, declared.asked.PairChanges.PairChanges}
+use Rattle.mlt_hash.specs.{Walks.WalkContext, Walks.IsAtStart, declared.pass.Change.Change}
+use Rattle.mlt_tx_two_records.specs.{declared.first.FirstAnswer.FirstAnswer, Performing.AddsElement, Performing.Performs, Performing.asked_of, Records.PlansRecord, Records.WritesRecord}
 
 -- ---- where it stands
 

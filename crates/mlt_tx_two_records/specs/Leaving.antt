@@ -1,16 +1,11 @@
 -- What an operation on two records leaves of the clean pages, and what it found there
 use Rattle.std.specs.Prelude.{ℕ, ◌≡◌, ◌≤◌, ◌⊎◌, None, Some}
 use Rattle.mlt_object_kinds.specs.declared.operation.ObjReply.{ObjReply}
-use Rattle.mlt_object_base.specs.declared.record.RecChange.{RecChange}
-use Rattle.mlt_object_base.specs.declared.request.Request.{Request}
-use Rattle.mlt_object_base.specs.Requests.{decision, size_decision, size_key_of, target_of}
+use Rattle.mlt_object_base.specs.{declared.record.RecChange.RecChange, declared.request.Request.Request, Requests.decision, Requests.size_decision, Requests.size_key_of, Requests.target_of}
 use Rattle.mlt_hash_form.specs.Changes.{ChangesRecord, IsAtHome, Spot, slot_change, slot_of}
-use Rattle.mlt_hash_form.specs.File.{FilePages, depth_of, look_up}
-use Rattle.mlt_hash_form.specs.Held.{RearrangesSlots, SeenPages, over}
+use Rattle.mlt_hash_form.specs.{File.FilePages, File.depth_of, File.look_up, Held.RearrangesSlots, Held.SeenPages, Held.over}
 use Rattle.mlt_hash_access.specs.Views.{View}
-use Rattle.mlt_hash.specs.Passes.{slot_after, value_after}
-use Rattle.mlt_hash.specs.Walks.{WalkContext, StoodBefore}
-use Rattle.mlt_hash.specs.declared.pass.Change.{Change}
+use Rattle.mlt_hash.specs.{Passes.slot_after, Passes.value_after, Walks.WalkContext, Walks.StoodBefore, declared.pass.Change.Change}
 use Rattle.mlt_tx_two_records.specs.Performing.{Performs}
 
 -- The record of a key is changed: slots of the pages were rearranged, on pages that are seen, up to `rest`; and then one slot of

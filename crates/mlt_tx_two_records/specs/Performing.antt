@@ -1,14 +1,7 @@
 -- How the change of a record that is decided on is made: by a walk, and by a pair
 use Rattle.std.specs.Prelude.{ℕ, ◌≡◌, ◌⊎◌, Option, None, Some}
-use Rattle.mlt_object_kinds.specs.declared.element.ElementOp.{ElementOp}
-use Rattle.mlt_object_kinds.specs.declared.operation.ObjOp.TheVariants.{Element}
-use Rattle.mlt_object_kinds.specs.declared.operation.ObjReply.{ObjReply}
-use Rattle.mlt_object_base.specs.declared.record.RecChange.{RecChange}
-use Rattle.mlt_object_base.specs.declared.record.RecChange.TheVariants.{Add, ToGhost, Revive}
-use Rattle.mlt_object_base.specs.declared.request.Request.{Request}
-use Rattle.mlt_object_base.specs.declared.request.Request.TheVariants.{Do}
-use Rattle.mlt_object_base.specs.Records.{counter_of_record, record_after}
-use Rattle.mlt_object_base.specs.Requests.{decision}
+use Rattle.mlt_object_kinds.specs.declared.{element.ElementOp.ElementOp, operation.ObjOp.TheVariants.Element, operation.ObjReply.ObjReply}
+use Rattle.mlt_object_base.specs.{declared.record.RecChange.RecChange, declared.record.RecChange.TheVariants.Add, declared.record.RecChange.TheVariants.ToGhost, declared.record.RecChange.TheVariants.Revive, declared.request.Request.Request, declared.request.Request.TheVariants.Do, Records.counter_of_record, Records.record_after, Requests.decision}
 use Rattle.mlt_hash_pair.specs.declared.asked.RecordChange.{RecordChange}
 use Rattle.mlt_hash.specs.declared.pass.Change.{Change}
 

@@ -1,12 +1,9 @@
 -- A change of a key's record, as the slot of a bucket that is set
 use Rattle.std.specs.Prelude.{ℕ, ◌≡◌, ◌<◌, slice_index_or}
-use Rattle.mlt_page.specs.declared.slot.Slot.TheVariants.{Free}
-use Rattle.mlt_page.specs.Values.{BucketFields}
+use Rattle.mlt_page.specs.{declared.slot.Slot.TheVariants.Free, Values.BucketFields}
 use Rattle.mlt_hash_access.specs.Views.{ReadsHeldBucket, View, WritesPage}
 use Rattle.mlt_hash_form.specs.Plans.{WriteFields, planned_page}
-use Rattle.mlt_hash.specs.Passes.{slot_after}
-use Rattle.mlt_hash.specs.Walks.{WalkContext, StoodBefore}
-use Rattle.mlt_hash.specs.declared.pass.Change.{Change}
+use Rattle.mlt_hash.specs.{Passes.slot_after, Walks.WalkContext, Walks.StoodBefore, declared.pass.Change.Change}
 
 -- The change is to be made in a slot of the bucket on page q, in which, by who is open, what it asks for stands.
 pub record PlansRecord (context : WalkContext) (done : Change) (key q : ℕ) (view : View)

@@ -2,22 +2,13 @@
 use Rattle.std.specs.Prelude.{ℕ, ◌≡◌, ◌≤◌, ◌<◌, ◌+◌, ◌^◌, nat_eq, if◌then◌else◌, position, None, Some}
 use Rattle.mlt_page.specs.Slots.{is_ghost_of}
 use Rattle.mlt_object_kinds.specs.declared.operation.ObjReply.{ObjReply}
-use Rattle.mlt_object_base.specs.declared.record.RecChange.TheVariants.{Revive}
-use Rattle.mlt_object_base.specs.declared.request.Request.{Request}
-use Rattle.mlt_object_base.specs.Records.{CanChange}
+use Rattle.mlt_object_base.specs.{declared.record.RecChange.TheVariants.Revive, declared.request.Request.Request, Records.CanChange}
 use Rattle.mlt_object_base.specs.Requests.{IsPossible, decision, size_decision, size_key_of, target_of}
 use Rattle.mlt_hash_form.specs.File.{FilePages, buckets_of, depth_of, lead_of, look_up}
-use Rattle.mlt_hash_access.specs.LocalStates.{HasCleanFile, MayStep, LocalState}
-use Rattle.mlt_hash_access.specs.Views.{View, view_of}
+use Rattle.mlt_hash_access.specs.{LocalStates.HasCleanFile, LocalStates.MayStep, LocalStates.LocalState, Views.View, Views.view_of}
 use Rattle.mlt_hash_pair.specs.Pairs.{find_by, most_steps}
-use Rattle.mlt_hash.specs.Steps.{steps_to_bucket}
-use Rattle.mlt_hash.specs.StepsLeft.{steps_to_put}
-use Rattle.mlt_hash.specs.Walks.{WalkContext, WalkFields}
-use Rattle.mlt_tx_two_records.specs.declared.two_records.TwoRecordWalk.{TwoRecordWalk}
-use Rattle.mlt_tx_two_records.specs.declared.two_records.TwoRecordWalk.TheVariants.{First, Owing, Wide}
-use Rattle.mlt_tx_two_records.specs.declared.two_records.WideStage.{WideStage}
-use Rattle.mlt_tx_two_records.specs.FirstPass.{HasToldFirst, IsFindingBoth, OwesOne}
-use Rattle.mlt_tx_two_records.specs.WidePass.{HasToldBoth, HasToldPresent, IsGoingToOwn, IsGoingToSize}
+use Rattle.mlt_hash.specs.{Steps.steps_to_bucket, StepsLeft.steps_to_put, Walks.WalkContext, Walks.WalkFields}
+use Rattle.mlt_tx_two_records.specs.{declared.two_records.TwoRecordWalk.TwoRecordWalk, declared.two_records.TwoRecordWalk.TheVariants.First, declared.two_records.TwoRecordWalk.TheVariants.Owing, declared.two_records.TwoRecordWalk.TheVariants.Wide, declared.two_records.WideStage.WideStage, FirstPass.HasToldFirst, FirstPass.IsFindingBoth, FirstPass.OwesOne, WidePass.HasToldBoth, WidePass.HasToldPresent, WidePass.IsGoingToOwn, WidePass.IsGoingToSize}
 
 -- an operation on two records that has taken no step
 abbrev pub find_both : ℕ → ℕ → TwoRecordWalk

@@ -1,18 +1,12 @@
 -- What a step of a walk is to who goes by it: how near it is to its change, what it waits for, and why it is refused
 use Rattle.std.specs.Prelude.{ℕ, ◌≡◌, ◌<◌, ◌≤◌, ◌+◌, ◌⊎◌, None}
-use Rattle.mlt_types.specs.declared.mode.Mode.{Mode}
-use Rattle.mlt_types.specs.declared.mode.Mode.TheVariants.{Exclusive}
+use Rattle.mlt_types.specs.declared.mode.Mode.{Mode, TheVariants.Exclusive}
 use Rattle.mlt_page_locks.specs.Requests.{IsLowest, conflicts}
-use Rattle.mlt_hash_access.specs.LocalStates.{LocalState}
-use Rattle.mlt_hash_access.specs.PageSteps.{HasNoPageLeft}
-use Rattle.mlt_hash_access.specs.Views.{View}
+use Rattle.mlt_hash_access.specs.{LocalStates.LocalState, PageSteps.HasNoPageLeft, Views.View}
 use Rattle.mlt_hash_split.specs.Steps.{IsNextPage}
 use Rattle.mlt_hash.specs.Walks.{WalkContext, IsStanding, WalkFields, split_target, view_for}
 use Rattle.mlt_hash.specs.Steps.{HasFound, IsSameWalk, next_mode, next_page, steps_to_bucket}
-use Rattle.mlt_hash.specs.StepsLeft.{steps_to_put}
-use Rattle.mlt_hash.specs.Splitting.{HasToMake, OfSplit}
-use Rattle.mlt_hash.specs.Changes.{HasNoRoom, NeedsSplit}
-use Rattle.mlt_hash.specs.declared.pass.Phase.{Phase}
+use Rattle.mlt_hash.specs.{StepsLeft.steps_to_put, Splitting.HasToMake, Splitting.OfSplit, Changes.HasNoRoom, Changes.NeedsSplit, declared.pass.Phase.Phase}
 use Rattle.mlt_tx_two_records.specs.Depths.{GoesDown}
 
 -- How many steps are left up to the change of the key's record, as far as is known: to the bucket, and then of its splits.

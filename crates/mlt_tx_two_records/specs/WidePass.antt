@@ -1,24 +1,13 @@
 -- The wide pass of an operation on two records, which adds an element to a set: where it stands, and what its steps tell
 use Rattle.std.specs.Prelude.{ℕ, ◌≡◌, ◌≤◌, ◌⊎◌, false, Option, None, Some}
-use Rattle.mlt_types.specs.declared.mode.Mode.TheVariants.{Exclusive}
-use Rattle.mlt_types.specs.declared.refusal.Refusal.{Refusal}
+use Rattle.mlt_types.specs.declared.{mode.Mode.TheVariants.Exclusive, refusal.Refusal.Refusal}
 use Rattle.mlt_page.specs.declared.page.Page.{Page}
 use Rattle.mlt_object_kinds.specs.declared.operation.ObjReply.{ObjReply}
-use Rattle.mlt_object_base.specs.declared.record.RecChange.{RecChange}
-use Rattle.mlt_object_base.specs.declared.record.RecChange.TheVariants.{Add}
-use Rattle.mlt_object_base.specs.declared.request.Request.{Request}
-use Rattle.mlt_object_base.specs.Requests.{decision, size_decision, target_of}
-use Rattle.mlt_hash_access.specs.LocalStates.{LocalState}
-use Rattle.mlt_hash_access.specs.PageTurns.{TurnsBack}
-use Rattle.mlt_hash_access.specs.Views.{HasWritten, View, rebased, view_of}
+use Rattle.mlt_object_base.specs.{declared.record.RecChange.RecChange, declared.record.RecChange.TheVariants.Add, declared.request.Request.Request, Requests.decision, Requests.size_decision, Requests.target_of}
+use Rattle.mlt_hash_access.specs.{LocalStates.LocalState, PageTurns.TurnsBack, Views.HasWritten, Views.View, Views.rebased, Views.view_of}
 use Rattle.mlt_hash.specs.Walks.{WalkContext, Before, HasRead, IsChanged, IsStanding, SlotsStood, WalkFields, context_after, before_of, one_key}
-use Rattle.mlt_hash.specs.Splitting.{IsUnderWay}
-use Rattle.mlt_hash.specs.Steps.{steps_to_bucket}
-use Rattle.mlt_hash.specs.declared.pass.Change.{Change}
-use Rattle.mlt_hash.specs.declared.pass.Pass.{Pass}
-use Rattle.mlt_hash.specs.declared.pass.Phase.{Phase}
-use Rattle.mlt_tx_two_records.specs.FirstPass.{HasKeys}
-use Rattle.mlt_tx_two_records.specs.Performing.{AddsElement, Performs}
+use Rattle.mlt_hash.specs.{Splitting.IsUnderWay, Steps.steps_to_bucket, declared.pass.Change.Change, declared.pass.Pass.Pass, declared.pass.Phase.Phase}
+use Rattle.mlt_tx_two_records.specs.{FirstPass.HasKeys, Performing.AddsElement, Performing.Performs}
 use Rattle.mlt_tx_two_records.specs.WalkSteps.{BeginsToSplit, GoesNearer, LacksPage, LacksRoom, WalkWaits}
 
 -- ---- where it stands

@@ -1,12 +1,8 @@
 -- The set of the numbers of a list in which no number stands twice.
 use Rattle.std.proofs.Common.{◌≡◌, ℕ, zero, suc, ◌+◌, ◌<◌, true, false, cond, not, ◌&&◌, ◌||◌, nat_eq, List, [], ◌∷◌, ◌++◌, length, get_or, None, Some, refl, sym, ◌∙◌, ap, subst, arith, add-one, position, remove, nat_cmp, eqb-true}
-use Rattle.std.specs.List.{IsDistinct, AllByRecursion, list_any, position_from}
-use Rattle.std.specs.Cmp.{nat_cmp_total, nat_eq_equiv, unsigned_tied}
+use Rattle.std.{specs.List.IsDistinct, specs.List.AllByRecursion, specs.List.list_any, specs.List.position_from, specs.Cmp.nat_cmp_total, specs.Cmp.nat_eq_equiv, specs.Cmp.unsigned_tied, proofs.lemmas.Map.Keys.IsDistinct-push, proofs.lemmas.Map.Keys.apart_from_distinct, proofs.lemmas.Iterator.Adapters.position_from-zero, proofs.lemmas.List.Quantifiers.position-Some}
 use Rattle.std.specs.FinSet as set
 use Rattle.std.specs.FinSet.{FinSet, nat_cmp-IsAntisymmetric, from_list, contains-from_list_nat, from_list_push, same_set}
-use Rattle.std.proofs.lemmas.Map.Keys.{IsDistinct-push, apart_from_distinct}
-use Rattle.std.proofs.lemmas.Iterator.Adapters.{position_from-zero}
-use Rattle.std.proofs.lemmas.List.Quantifiers.{position-Some}
 
 -- a number that differs from each is none of them
 none_is : (x : ℕ) (xs : List ℕ) → AllByRecursion (λ y. nat_eq x y ≡ false) xs → list_any (λ y. nat_eq y x) xs ≡ false

@@ -1,7 +1,6 @@
 -- Cells, and the numbers of their keys.
 use Rattle.std.specs.Prelude.{ℕ, ◌+◌, ◌*◌, ◌^◌, ◌<◌}
-use Rattle.mlt_types.specs.declared.cell.Cell.{Cell}
-use Rattle.mlt_types.specs.declared.cell.Cell.TheVariants.{Account, Element, Counter, Size}
+use Rattle.mlt_types.specs.declared.cell.Cell.{Cell, TheVariants.Account, TheVariants.Element, TheVariants.Counter, TheVariants.Size}
 
 -- the number of a cell's key, which no other cell has
 abbrev pub key_number : Cell → ℕ

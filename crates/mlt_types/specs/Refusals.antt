@@ -1,8 +1,6 @@
 -- The numbers and names that are printed of refusals, and the names of causes.
 use Rattle.std.specs.Prelude.{ℕ, List, codes}
-use Rattle.mlt_types.specs.declared.refusal.Refusal.{Refusal}
-use Rattle.mlt_types.specs.declared.refusal.ScriptCause.{ScriptCause}
-use Rattle.mlt_types.specs.declared.refusal.TraceCause.{TraceCause}
+use Rattle.mlt_types.specs.declared.refusal.{Refusal.Refusal, ScriptCause.ScriptCause, TraceCause.TraceCause}
 
 -- the name of the cause of a faulty script
 abbrev pub script_cause_name : ScriptCause → List ℕ

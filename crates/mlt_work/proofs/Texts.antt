@@ -1,19 +1,12 @@
 -- The text of scripts that were run side by side.
 use Rattle.std.proofs.Common.{◌≡◌, ◌∙◌, ◌++◌, ℕ, List, ap, map, refl, subst}
-use Rattle.std.proofs.lemmas.List.{map-append}
-use Rattle.std.specs.Global.{Vec}
+use Rattle.std.{proofs.lemmas.List.map-append, specs.Global.Vec}
 use Rattle.mlt_types.specs.declared.limits.Limits.{Limits}
-use Rattle.mlt_script.specs.Grammar.{Spells}
-use Rattle.mlt_script.specs.declared.script.Script.{Script}
-use Rattle.mlt_script.specs.Clients.{parts_of}
-use Rattle.mlt_script.specs.Scripts.{ScriptForm}
+use Rattle.mlt_script.specs.{Grammar.Spells, declared.script.Script.Script, Clients.parts_of, Scripts.ScriptForm}
 use Rattle.mlt_work_clients.specs.Places.{scripts_of_clients}
-use Rattle.mlt_script_serial.specs.declared.report.ReportForm.TheVariants.{Run}
-use Rattle.mlt_script_serial.specs.declared.report.Report.{Report}
-use Rattle.mlt_script_serial.specs.Texts.{report_text}
+use Rattle.mlt_script_serial.specs.{declared.report.ReportForm.TheVariants.Run, declared.report.Report.Report, Texts.report_text}
 use Rattle.mlt_manager.specs.Managers.{ManagerFields}
-use Rattle.mlt_work.specs.Runs.{HasRunAll}
-use Rattle.mlt_work.specs.RunTexts.{IsRunText}
+use Rattle.mlt_work.specs.{Runs.HasRunAll, RunTexts.IsRunText}
 
 -- the report of the scripts that were read, parted by client, is that of the input
 pub run_text : {P : Type 0} (limits : Limits) (pseudo : P) (seen input : List ℕ) (slice parts : List (Vec Script))

@@ -2,12 +2,8 @@
 use Rattle.std.specs.Prelude.{◌≡◌, ◌++◌, ℕ, List, Option}
 use Rattle.mlt_types.specs.declared.limits.Limits.{Limits}
 use Rattle.mlt_text.specs.Inputs.{GivesWhole}
-use Rattle.mlt_script.specs.Grammar.{Spells}
-use Rattle.mlt_script.specs.Clients.{parts_of}
-use Rattle.mlt_script.specs.Scripts.{ScriptForm}
-use Rattle.mlt_script_serial.specs.declared.report.ReportForm.TheVariants.{Run}
-use Rattle.mlt_script_serial.specs.declared.report.Report.{Report}
-use Rattle.mlt_script_serial.specs.Texts.{report_text}
+use Rattle.mlt_script.specs.{Grammar.Spells, Clients.parts_of, Scripts.ScriptForm}
+use Rattle.mlt_script_serial.specs.{declared.report.ReportForm.TheVariants.Run, declared.report.Report.Report, Texts.report_text}
 use Rattle.mlt_manager.specs.Managers.{ManagerFields}
 use Rattle.mlt_work.specs.Runs.{HasRunAll}
 

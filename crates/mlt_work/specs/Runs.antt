@@ -2,10 +2,8 @@
 use Rattle.std.specs.Prelude.{◌≡◌, List}
 use Rattle.mlt_script.specs.Scripts.{ScriptForm}
 use Rattle.mlt_script_serial.specs.declared.report.Report.{Report}
-use Rattle.mlt_trace_audit.specs.Agreement.{Agrees}
-use Rattle.mlt_trace_audit.specs.Committed.{IsBaseOfOutcomes}
-use Rattle.mlt_manager.specs.Managers.{ManagerFields}
-use Rattle.mlt_manager.specs.Openings.{IsMadeWith}
+use Rattle.mlt_trace_audit.specs.{Agreement.Agrees, Committed.IsBaseOfOutcomes}
+use Rattle.mlt_manager.specs.{Managers.ManagerFields, Openings.IsMadeWith}
 use Rattle.mlt_types.specs.declared.limits.Limits.{Limits}
 use Rattle.mlt_work_clients.specs.Places.{AreAllOutcomes}
 

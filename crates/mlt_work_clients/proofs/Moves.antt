@@ -1,12 +1,10 @@
 -- Each kind of step keeps the rule.
 use Rattle.std.proofs.Common.{◌≡◌, ◌≢◌, ◌⊎◌, ℕ, zero, suc, ◌+◌, ◌-◌, ◌%◌, ◌^◌, ◌<◌, ◌≤◌, List, [], ◌∷◌, ◌++◌, set, cond, Bool, refl, sym, ap, ◌∙◌, subst, inl, inr, ⊎_elim, arith, slice_index}
-use Rattle.std.proofs.lemmas.Bool.Decides.{nat_tests, leb_tells}
-use Rattle.std.proofs.Math.Nat.{mod-eq_of_lt}
+use Rattle.std.proofs.{lemmas.Bool.Decides.nat_tests, lemmas.Bool.Decides.leb_tells, Math.Nat.mod-eq_of_lt}
 use mathlib.Core.Option.{some, some-injective, some-ne-none}
 use lib.ListN.{get_elem?}
 use Rattle.atomic_table.specs.Table.{State, Me, Allows, Splits, Joins}
-use Rattle.atomic_table.specs.Table.Act.{keeps}
-use Rattle.atomic_table.proofs.Lists.{at_set, at_snoc}
+use Rattle.atomic_table.{specs.Table.Act.keeps, proofs.Lists.at_set, proofs.Lists.at_snoc}
 use Rattle.mlt_work_clients.specs.declared.seats.SeatView.{SeatView}
 use Rattle.mlt_work_clients.specs.Claims.{view, times, total, once_below, parts_of, overruns_of, times_of, IsSeat, IsClaimed, IsKept, after_draw, after_split, after_join}
 

@@ -1,15 +1,9 @@
 -- Runs at their places.
 use Rattle.std.proofs.Common.{◌≡◌, ◌≢◌, ◌⊎◌, ℕ, zero, suc, ◌+◌, ◌-◌, ◌<◌, ◌≤◌, List, [], ◌∷◌, ◌++◌, length, map, set, append_assoc, cond, Bool, refl, sym, ap, ◌∙◌, subst, inl, inr, ⊎_elim, arith, get_or, Option, Some, None, IfSome, IsSome, lt-ltb, append-nil, length-set, get_or-set_same, get_or-set_other, All, Vec, Global}
-use Rattle.std.proofs.lemmas.List.{length-map, map-append}
-use Rattle.std.proofs.lemmas.List.Elements.{All-pop}
-use Rattle.std.proofs.lemmas.Bool.Decides.{eqb_tells, nat_tests}
-use Rattle.mlt_work_clients.specs.declared.seats.SeatView.{SeatView}
-use Rattle.mlt_work_clients.specs.Claims.{view, times, after_draw}
-use Rattle.mlt_work_clients.proofs.Moves.{times-append}
+use Rattle.std.proofs.lemmas.{List.length-map, List.map-append, List.Elements.All-pop, Bool.Decides.eqb_tells, Bool.Decides.nat_tests}
+use Rattle.mlt_work_clients.{specs.declared.seats.SeatView.SeatView, specs.Claims.view, specs.Claims.times, specs.Claims.after_draw, proofs.Moves.times-append, specs.declared.forms.ClientRun.ClientRun}
 use Rattle.mlt_script_serial.specs.declared.outcome.Outcome.{Outcome}
-use Rattle.mlt_script.specs.declared.script.Script.{Script}
-use Rattle.mlt_script.specs.Scripts.{ScriptForm}
-use Rattle.mlt_work_clients.specs.declared.forms.ClientRun.{ClientRun}
+use Rattle.mlt_script.specs.{declared.script.Script.Script, Scripts.ScriptForm}
 use Rattle.mlt_work_clients.specs.Places.{AreAllOutcomes, AreClientOutcomes, AreInPlace, HasRunAt, HaveRuns, IsClientRun, KeepsRuns, place_of, scripts_of_clients}
 
 -- a draw of a client

@@ -1,15 +1,10 @@
 -- The runs of clients, by the places of the clients in their list.
 use Rattle.std.specs.Prelude.{◌≡◌, ℕ, ◌<◌, List, [], ◌∷◌, ◌++◌, All, length, map, slice_index_or, Option, None, IfSome, IsSome}
 use Rattle.std.specs.Global.{Vec}
-use Rattle.mlt_script.specs.declared.script.Script.{Script}
-use Rattle.mlt_script.specs.Scripts.{ScriptForm}
+use Rattle.mlt_script.specs.{declared.script.Script.Script, Scripts.ScriptForm}
 use Rattle.mlt_types.specs.declared.refusal.Refusal.{Refusal}
-use Rattle.mlt_script_serial.specs.declared.outcome.End.{End}
-use Rattle.mlt_script_serial.specs.declared.outcome.End.TheVariants.{Refused}
-use Rattle.mlt_script_serial.specs.declared.outcome.Outcome.{Outcome}
-use Rattle.mlt_script_serial.specs.Clients.{AreOutcomes}
-use Rattle.mlt_work_clients.specs.Claims.{times}
-use Rattle.mlt_work_clients.specs.declared.forms.ClientRun.{ClientRun}
+use Rattle.mlt_script_serial.specs.{declared.outcome.End.End, declared.outcome.End.TheVariants.Refused, declared.outcome.Outcome.Outcome, Clients.AreOutcomes}
+use Rattle.mlt_work_clients.specs.{Claims.times, declared.forms.ClientRun.ClientRun}
 
 -- the scripts of each client
 abbrev pub scripts_of_clients : List (Vec Script) → List (List ScriptForm)

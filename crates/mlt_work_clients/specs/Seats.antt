@@ -1,8 +1,6 @@
 -- Seats of a counter.
 use Rattle.std.specs.Prelude.{◌≡◌}
-use Rattle.mlt_work_clients.specs.declared.seats.SeatView.{SeatView}
-use Rattle.mlt_work_clients.specs.declared.seats.ClientCounter.{ClientCounter}
-use Rattle.mlt_work_clients.specs.declared.seats.ClaimHandle.{ClaimHandle}
+use Rattle.mlt_work_clients.specs.declared.seats.{SeatView.SeatView, ClientCounter.ClientCounter, ClaimHandle.ClaimHandle}
 
 -- the seat draws from this counter
 abbrev pub IsOf : ClientCounter → ClaimHandle → Type 0

@@ -1,13 +1,7 @@
 -- Workers, before and after their work.
 use Rattle.std.specs.Prelude.{◌≡◌, ℕ, ◌-◌, ◌<◌, ◌≤◌, List, [], ◌∷◌, ◌++◌, All, length, map, Bool, false}
 use Rattle.mlt_script.specs.Scripts.{ScriptForm}
-use Rattle.mlt_work_clients.specs.declared.seats.SeatView.{SeatView}
-use Rattle.mlt_work_clients.specs.declared.seats.ClientCounter.{ClientCounter}
-use Rattle.mlt_work_clients.specs.declared.seats.ClaimHandle.{ClaimHandle}
-use Rattle.mlt_work_clients.specs.Claims.{new_view, times, view}
-use Rattle.mlt_work_clients.specs.Seats.{IsOf, view_of}
-use Rattle.mlt_work_clients.specs.declared.forms.ClientRun.{ClientRun}
-use Rattle.mlt_work_clients.specs.Places.{IsClientRun, place_of}
+use Rattle.mlt_work_clients.specs.{declared.seats.SeatView.SeatView, declared.seats.ClientCounter.ClientCounter, declared.seats.ClaimHandle.ClaimHandle, Claims.new_view, Claims.times, Claims.view, Seats.IsOf, Seats.view_of, declared.forms.ClientRun.ClientRun, Places.IsClientRun, Places.place_of}
 
 -- what the first seat knows once it was split so often
 abbrev pub view_after_splits : ℕ → ℕ → SeatView

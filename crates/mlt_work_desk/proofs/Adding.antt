@@ -2,13 +2,9 @@
 use Rattle.std.proofs.Common.{◌≡◌, ◌∙◌, ℕ, List, ◌++◌, Option, None, Some, ap}
 use Rattle.std.specs.FinMap as map
 use Rattle.mlt_work_desk.proofs.Names.{ObjOp, TraceItem, Event, Told, counted, Meets, ManagerFields, AddsItems, CalledOps}
-use Rattle.mlt_object_base.specs.declared.request.Request.{Request}
-use Rattle.mlt_object_base.specs.declared.request.Request.TheVariants.{Do}
-use Rattle.mlt_tx.specs.declared.transaction.At.{At}
-use Rattle.mlt_tx.specs.declared.transaction.Transaction.{Transaction}
-use Rattle.mlt_tx.specs.Tables.{Table}
-use Rattle.mlt_manager.specs.Bases.{IsPendingWith}
-use Rattle.mlt_manager.proofs.Tolds.{event_tells}
+use Rattle.mlt_object_base.specs.declared.request.Request.{Request, TheVariants.Do}
+use Rattle.mlt_tx.specs.{declared.transaction.At.At, declared.transaction.Transaction.Transaction, Tables.Table}
+use Rattle.mlt_manager.{specs.Bases.IsPendingWith, proofs.Tolds.event_tells}
 
 -- the operation that is pending, if one is
 asked_op : Request → Option ObjOp

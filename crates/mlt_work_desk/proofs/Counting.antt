@@ -2,8 +2,7 @@
 use Rattle.std.proofs.Common.{◌≡◌, ℕ, List, [], ◌∷◌, Bool, true, false, Ok, Err, ap, ◌∙◌}
 use Rattle.mlt_work_desk.proofs.Names.{Refusal, ObjOp, Answer, Event, Told, counted, Meets, ManagerFields}
 use Rattle.mlt_manager.specs.Answers.{AnswersAbort, AnswersCall, ChangesOpen, HasStepped, next_count}
-use Rattle.mlt_manager.specs.Chains.{StepsBy, StepsUpTo}
-use Rattle.mlt_manager.specs.Wholes.{DropsIfItStands}
+use Rattle.mlt_manager.specs.{Chains.StepsBy, Chains.StepsUpTo, Wholes.DropsIfItStands}
 use Rattle.mlt_work_desk.specs.Makings.{Making, making_of}
 
 module _ {P : Type 0} where

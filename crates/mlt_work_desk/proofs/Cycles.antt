@@ -1,10 +1,8 @@
 -- Whose transaction is the youngest of a cycle of waits.
 use Rattle.std.proofs.Common.{◌≡◌, ◌∙◌, ℕ, Bool, List, Option, None, Some, false, true, ap, refl, subst, sym}
 use Rattle.mlt_work_desk.proofs.Names.{false≢true, Answer, Told, Waits, Awaited, Waiting, SleepingThread}
-use Rattle.mlt_work_waits.specs.declared.wait.Waker.{Waker}
+use Rattle.mlt_work_waits.specs.{declared.wait.Waker.Waker, Turns.TurnsIfWaits, Turns.wait_if, declared.turn.Turn.Turn}
 use Rattle.mlt_work_desk.specs.Tries.{IsYoungestOfCycle}
-use Rattle.mlt_work_waits.specs.Turns.{TurnsIfWaits, wait_if}
-use Rattle.mlt_work_waits.specs.declared.turn.Turn.{Turn}
 
 gives_up : Turn → Bool
 gives_up Turn.Deadlock = true

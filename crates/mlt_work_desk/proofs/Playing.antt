@@ -1,17 +1,11 @@
 -- A manager under a lock has executed one more event.
 use Rattle.std.proofs.Common.{◌≡◌, ◌<◌, ℕ, ◌+◌, ◌-◌, ◌^◌, min, List, [], ◌∷◌, ◌++◌, length, map, refl, subst, sym, length-append, arith}
-use Rattle.std.proofs.lemmas.Grind.{merely}
-use Rattle.std.proofs.lemmas.List.{map-append}
+use Rattle.std.proofs.lemmas.{Grind.merely, List.map-append}
 use mathlib.Core.Logic.{∥∥₁_map}
 use Rattle.mlt_work_desk.proofs.Names.{Event, Told, counted, Meets, ManagerFields}
 use Rattle.mlt_types.specs.declared.limits.Limits.{Limits}
-use Rattle.mlt_manager.specs.Events.{IsRun, Plays}
-use Rattle.mlt_manager.specs.Openings.{IsNew}
-use Rattle.mlt_manager.specs.Promises.{KeepsPromises}
-use Rattle.mlt_manager.proofs.Courses.{played_course}
-use Rattle.mlt_manager.proofs.Tolds.{history_told}
-use Rattle.mlt_work_desk.proofs.Counting.{one_event}
-use Rattle.mlt_work_desk.specs.Playing.{ArePlayed, HasPlayed, IsPlayed}
+use Rattle.mlt_manager.{specs.Events.IsRun, specs.Events.Plays, specs.Openings.IsNew, specs.Promises.KeepsPromises, proofs.Courses.played_course, proofs.Tolds.history_told}
+use Rattle.mlt_work_desk.{proofs.Counting.one_event, specs.Playing.ArePlayed, specs.Playing.HasPlayed, specs.Playing.IsPlayed}
 
 module _ {P : Type 0} (bits_of : P → ℕ → ℕ) (keys : (p : P) (number : ℕ) → bits_of p number < 2 ^ 64) where
   run_on : (old m m' : ManagerFields P) (events : List Event) (tolds : List Told) (e : Event) (t : Told)

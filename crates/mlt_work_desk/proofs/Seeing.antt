@@ -2,8 +2,7 @@
 use Rattle.std.proofs.Common.{◌≡◌, ◌∙◌, ℕ, List, [], ◌∷◌, ◌++◌, length, sym, ap, subst, refl, inl, inr, true, arith, Contains, append_assoc, append-nil, length-append}
 use Rattle.std.proofs.lemmas.List.Elements.{Contains-append_right}
 use Rattle.mlt_work_desk.proofs.Names.{Refusal, ObjOp, ObjReply, TraceItem, Answer, Event, Told, Replied, Aborted, DeskCall, StartsWith, EndsWithOp, IsToldTo, SeesAnswer, SeesEvent}
-use Rattle.mlt_script_serial.specs.declared.call.DeskAnswer.{DeskAnswer}
-use Rattle.mlt_script_serial.specs.declared.call.DeskAnswer.TheVariants.{Begun, Committed, Refused}
+use Rattle.mlt_script_serial.specs.declared.call.DeskAnswer.{DeskAnswer, TheVariants.Begun, TheVariants.Committed, TheVariants.Refused}
 use Rattle.mlt_work_desk.specs.Holds.{HaveAnswer, IsOfAbort}
 
 -- the last ones of two lists that are the same

@@ -1,8 +1,7 @@
 -- What the waits of an operation spend.
 use Rattle.std.proofs.Common.{◌≡◌, ◌∙◌, ◌+◌, ◌-◌, ◌^◌, Bool, min, ap, refl, arith}
 use Rattle.mlt_work_desk.proofs.Names.{SpendsByWaits}
-use Rattle.mlt_work_desk.specs.Tries.{tries_spent}
-use Rattle.mlt_work_desk.specs.declared.tries.TriesLeft.{TriesLeft}
+use Rattle.mlt_work_desk.specs.{Tries.tries_spent, declared.tries.TriesLeft.TriesLeft}
 
 -- no try is spent
 pub spends_none : (before after : TriesLeft) (patient : Bool) → after ≡ record before { is_patient = patient } → SpendsByWaits before after

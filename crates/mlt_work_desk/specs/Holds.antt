@@ -2,24 +2,14 @@
 use Rattle.std.specs.Prelude.{ℕ, ◌≡◌, ◌⊎◌, true, List, [], ◌∷◌, ◌++◌, Contains}
 use Rattle.mlt_types.specs.declared.refusal.Refusal.{Refusal}
 use Rattle.mlt_object_kinds.specs.declared.operation.ObjOp.{ObjOp}
-use Rattle.mlt_script_serial.specs.declared.call.DeskAnswer.{DeskAnswer}
+use Rattle.mlt_script_serial.specs.declared.call.{DeskAnswer.DeskAnswer, DeskCall.DeskCall}
 use Rattle.mlt_script_serial.specs.declared.call.DeskAnswer.TheVariants.{Begun, Replied, Committed, Aborted, Refused}
-use Rattle.mlt_script_serial.specs.declared.call.DeskCall.{DeskCall}
-use Rattle.mlt_event.specs.declared.answer.Answer.{Answer}
-use Rattle.mlt_event.specs.declared.event.Event.{Event}
-use Rattle.mlt_event.specs.declared.told.Told.{Told}
-use Rattle.mlt_trace.specs.Items.{TellsOf}
-use Rattle.mlt_trace.specs.declared.item.TraceItem.{TraceItem}
-use Rattle.mlt_manager.specs.Answers.{counted}
-use Rattle.mlt_manager.specs.Events.{Meets}
-use Rattle.mlt_manager.specs.Managers.{IsManager, ManagerFields}
-use Rattle.mlt_manager.specs.Tolds.{AddsItems, CalledOps}
-use Rattle.mlt_work_log.specs.Seats.{first_items}
-use Rattle.mlt_work_log.specs.declared.seats.LogSnapshot.{LogSnapshot}
-use Rattle.mlt_work_desk.specs.Refusals.{IsOfBegin, IsOfCommit, IsOfOperation}
-use Rattle.mlt_work_desk.specs.Tries.{GivesUp, SpendsTries}
+use Rattle.mlt_event.specs.declared.{answer.Answer.Answer, event.Event.Event, told.Told.Told}
+use Rattle.mlt_trace.specs.{Items.TellsOf, declared.item.TraceItem.TraceItem}
+use Rattle.mlt_manager.specs.{Answers.counted, Events.Meets, Managers.IsManager, Managers.ManagerFields, Tolds.AddsItems, Tolds.CalledOps}
+use Rattle.mlt_work_log.specs.{Seats.first_items, declared.seats.LogSnapshot.LogSnapshot}
+use Rattle.mlt_work_desk.specs.{Refusals.IsOfBegin, Refusals.IsOfCommit, Refusals.IsOfOperation, Tries.GivesUp, Tries.SpendsTries, declared.tries.TriesLeft.TriesLeft}
 use Rattle.mlt_work_waits.specs.Gates.{is_to_wait}
-use Rattle.mlt_work_desk.specs.declared.tries.TriesLeft.{TriesLeft}
 
 -- An event of some manager was told this, and met the contract of its call. What is always true of a manager is true of it
 -- before the event and after it.

@@ -1,12 +1,8 @@
 -- What the manager under a lock has executed.
 use Rattle.std.specs.Prelude.{ℕ, ◌≡◌, ◌-◌, ◌^◌, List, None, length, map, min}
 use Rattle.mlt_types.specs.declared.limits.Limits.{Limits}
-use Rattle.mlt_event.specs.declared.event.Event.{Event}
-use Rattle.mlt_event.specs.declared.told.Told.{Told}
-use Rattle.mlt_manager.specs.Courses.{Course, KeepsPromiseOver, TellsAll, opening_course}
-use Rattle.mlt_manager.specs.Events.{Plays}
-use Rattle.mlt_manager.specs.Managers.{ManagerFields}
-use Rattle.mlt_manager.specs.Tolds.{AreToldBy}
+use Rattle.mlt_event.specs.declared.{event.Event.Event, told.Told.Told}
+use Rattle.mlt_manager.specs.{Courses.Course, Courses.KeepsPromiseOver, Courses.TellsAll, Courses.opening_course, Events.Plays, Managers.ManagerFields, Tolds.AreToldBy}
 
 -- From a new manager, these events with these answers lead to this one. They tell a course of transactions, over which the promise
 -- is kept, and the history has the items that they tell.

@@ -1,9 +1,7 @@
 -- What is copied of a history under the lock
 use Rattle.std.specs.Prelude.{ℕ, ◌≡◌, ◌⊎◌, List, Option, ◌++◌, drop, take}
-use Rattle.mlt_page.specs.Stores.{page_at}
-use Rattle.mlt_page.specs.declared.page.Page.{Page}
-use Rattle.mlt_trace.specs.HistoryItems.{ItemsWithRoom}
-use Rattle.mlt_trace.specs.declared.item.TraceItem.{TraceItem}
+use Rattle.mlt_page.specs.{Stores.page_at, declared.page.Page.Page}
+use Rattle.mlt_trace.specs.{HistoryItems.ItemsWithRoom, declared.item.TraceItem.TraceItem}
 use Rattle.mlt_tx.specs.Tables.{KeepsImage, KeepsNoImage}
 use Rattle.mlt_manager.specs.Managers.{ManagerFields}
 

@@ -1,11 +1,8 @@
 -- How the tries of a desk are spent, and why an operation gives up.
 use Rattle.std.specs.Prelude.{ℕ, ◌≡◌, ◌+◌, ◌-◌, ◌^◌, ◌<◌, ◌⊎◌, min, true, false}
 use Rattle.mlt_script_serial.specs.declared.call.DeskCall.{DeskCall}
-use Rattle.mlt_work_waits.specs.Waits.{Waits, IsYoungest}
-use Rattle.mlt_work_waits.specs.declared.wait.Waiting.{Waiting}
-use Rattle.mlt_work_desk.specs.declared.tries.Tries.{Tries}
-use Rattle.mlt_work_desk.specs.declared.tries.Tries.TheVariants.{PerOperation, PerScript}
-use Rattle.mlt_work_desk.specs.declared.tries.TriesLeft.{TriesLeft}
+use Rattle.mlt_work_waits.specs.{Waits.Waits, Waits.IsYoungest, declared.wait.Waiting.Waiting}
+use Rattle.mlt_work_desk.specs.declared.tries.{Tries.Tries, Tries.TheVariants.PerOperation, Tries.TheVariants.PerScript, TriesLeft.TriesLeft}
 
 -- so many, of which none are left yet
 abbrev pub tries_of : Tries → TriesLeft

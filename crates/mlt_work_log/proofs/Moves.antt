@@ -4,10 +4,8 @@ use Rattle.std.proofs.lemmas.Bool.{false≢true}
 use mathlib.Core.Option.{some, some-injective, some-ne-none}
 use lib.ListN.{get_elem?}
 use Rattle.atomic_table.specs.Table.{State, Me, Allows, Splits, Joins}
-use Rattle.atomic_table.specs.Table.Act.{keeps}
-use Rattle.atomic_table.proofs.Lists.{at_set, at_snoc, set_else}
-use Rattle.mlt_work_log.specs.declared.seats.LogView.{LogView}
-use Rattle.mlt_work_log.specs.declared.seats.Past.{Past}
+use Rattle.atomic_table.{specs.Table.Act.keeps, proofs.Lists.at_set, proofs.Lists.at_snoc, proofs.Lists.set_else}
+use Rattle.mlt_work_log.specs.declared.seats.{LogView.LogView, Past.Past}
 use Rattle.mlt_work_log.specs.Prefixes.{AreKept, HasBegunWith, HasGrown, Knows, StartsWith, after_join, first_view, no_past, snapshot_view, spent_view, writer_view}
 
 itself : {A : Type 0} (xs : List A) → StartsWith xs xs

@@ -2,11 +2,9 @@
 use Rattle.std.specs.Prelude.{◌≡◌, ℕ, List, [], ◌∷◌, ◌++◌, Bool, true, false}
 use mathlib.Core.Option.{some}
 use lib.ListN.{get_elem?}
-use Rattle.mlt_event.specs.declared.event.Event.{Event}
-use Rattle.mlt_event.specs.declared.told.Told.{Told}
+use Rattle.mlt_event.specs.declared.{event.Event.Event, told.Told.Told}
 use Rattle.mlt_trace.specs.declared.item.TraceItem.{TraceItem}
-use Rattle.mlt_work_log.specs.declared.seats.LogView.{LogView}
-use Rattle.mlt_work_log.specs.declared.seats.Past.{Past}
+use Rattle.mlt_work_log.specs.declared.seats.{LogView.LogView, Past.Past}
 
 -- these are the first ones of a list
 abbrev pub StartsWith : {A : Type 0} → List A → List A → Type 0

@@ -2,10 +2,7 @@
 use Rattle.std.specs.Prelude.{◌≡◌, List, []}
 use Rattle.atomic_table.specs.Seated.{TableId}
 use Rattle.mlt_trace.specs.declared.item.TraceItem.{TraceItem}
-use Rattle.mlt_work_log.specs.declared.seats.HistoryLog.{HistoryLog}
-use Rattle.mlt_work_log.specs.declared.seats.LogSnapshot.{LogSnapshot}
-use Rattle.mlt_work_log.specs.declared.seats.LogWriter.{LogWriter}
-use Rattle.mlt_work_log.specs.declared.seats.Past.{Past}
+use Rattle.mlt_work_log.specs.declared.seats.{HistoryLog.HistoryLog, LogSnapshot.LogSnapshot, LogWriter.LogWriter, Past.Past}
 
 -- what tells a log from others
 abbrev pub LogId : Type 0

@@ -1,8 +1,6 @@
 -- What one more wait adds to the ways along waits, and what fewer waits leave
 use Rattle.std.proofs.Common.{◌≡◌, ℕ, ◌⊎◌, true, false, not, cond, List, [], ◌∷◌, ◌++◌, sym, subst, ◌∙◌, inl, inr}
-use Rattle.mlt_work_waits.specs.declared.wait.Awaited.{Awaited}
-use Rattle.mlt_work_waits.specs.declared.wait.Waiting.{Waiting}
-use Rattle.mlt_work_waits.specs.declared.wait.Whose.{Whose}
+use Rattle.mlt_work_waits.specs.declared.wait.{Awaited.Awaited, Waiting.Waiting, Whose.Whose}
 use Rattle.mlt_work_waits.specs.Waits.{IsAcyclic, IsAmong, IsFor, LeadsBy, LeadsTo, Waits, for_objects, is_for, joined, nobody_waits, others_in, released}
 
 -- a wait among these and one more is among these, or is that one

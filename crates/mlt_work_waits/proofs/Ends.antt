@@ -1,8 +1,7 @@
 -- From each the waits lead to one that waits for nobody, as there are finitely many and no cycle
 use Rattle.std.proofs.Common.{◌≡◌, ℕ, zero, suc, ◌+◌, ◌≤◌, ◌⊎◌, List, [], ◌∷◌, ◌++◌, length, length-append, None, Some, refl, sym, subst, ◌∙◌, inl, inr, arith}
-use Rattle.mlt_work_waits.specs.declared.wait.Waiting.{Waiting}
+use Rattle.mlt_work_waits.{specs.declared.wait.Waiting.Waiting, proofs.Found.found_is_for, proofs.Found.none_is_for}
 use Rattle.mlt_work_waits.specs.Waits.{IsAcyclic, IsAmong, IsAwake, IsFor, LeadsBy, LeadsTo, LeadToAwake, Waits, holder_of}
-use Rattle.mlt_work_waits.proofs.Found.{found_is_for, none_is_for}
 
 -- one of these is x
 abbrev Has : List ℕ → ℕ → Type 0

@@ -1,19 +1,8 @@
 -- The table of those that may clash has exactly these
 use Rattle.std.proofs.Common.{◌≡◌, Bool, true, false, not, ◌&&◌, ◌==◌, refl, MatchBool}
-use Rattle.mlt_object_kinds.specs.declared.account.AccountOp.{AccountOp}
+use Rattle.mlt_object_kinds.specs.declared.{account.AccountOp.AccountOp, counter.CounterOp.CounterOp, counter.CounterOp.TheVariants.Up, counter.CounterOp.TheVariants.Down, counter.CounterOp.TheVariants.Read, element.ElementOp.ElementOp, element.ElementOp.TheVariants.Add, element.ElementOp.TheVariants.Remove, element.ElementOp.TheVariants.Has, operation.ObjOp.ObjOp, operation.ObjOp.TheVariants.Account, operation.ObjOp.TheVariants.Element, operation.ObjOp.TheVariants.Counter, operation.ObjOp.TheVariants.Size, operation.ObjReply.ObjReply}
 use Rattle.mlt_object_kinds.specs.declared.account.AccountOp.TheVariants.{Open, Close, Deposit, Withdraw, Balance}
-use Rattle.mlt_object_kinds.specs.declared.counter.CounterOp.{CounterOp}
-use Rattle.mlt_object_kinds.specs.declared.counter.CounterOp.TheVariants.{Up, Down, Read}
-use Rattle.mlt_object_kinds.specs.declared.element.ElementOp.{ElementOp}
-use Rattle.mlt_object_kinds.specs.declared.element.ElementOp.TheVariants.{Add, Remove, Has}
-use Rattle.mlt_object_kinds.specs.declared.operation.ObjOp.{ObjOp}
-use Rattle.mlt_object_kinds.specs.declared.operation.ObjOp.TheVariants.{Account, Element, Counter, Size}
-use Rattle.mlt_object_kinds.specs.declared.operation.ObjReply.{ObjReply}
-use Rattle.mlt_object_conflicts.specs.AccountTable.{account_class, account_marks}
-use Rattle.mlt_object_conflicts.specs.CounterTable.{counter_class, counter_marks}
-use Rattle.mlt_object_conflicts.specs.ElementTable.{element_class, element_marks}
-use Rattle.mlt_object_conflicts.specs.Clashes.{marked_classes}
-use Rattle.mlt_object_conflicts.specs.Sizes.{changes_told}
+use Rattle.mlt_object_conflicts.specs.{AccountTable.account_class, AccountTable.account_marks, CounterTable.counter_class, CounterTable.counter_marks, ElementTable.element_class, ElementTable.element_marks, Clashes.marked_classes, Sizes.changes_told}
 use Rattle.mlt_work_waits.specs.Queues.{MayClash, NeverClash, is_one, may_clash, reads_account, reads_counter, reads_element}
 
 -- some replies are marked

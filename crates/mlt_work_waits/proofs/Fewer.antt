@@ -1,10 +1,7 @@
 -- How many wait once locks were given back
 use Rattle.std.proofs.Common.{◌≡◌, ◌≤◌, List, [], ◌∷◌, true, false, not, cond, length, refl, arith}
-use Rattle.mlt_work_waits.specs.Turns.{waiting}
+use Rattle.mlt_work_waits.specs.{Turns.waiting, declared.wait.Awaited.Awaited, declared.wait.Waiting.Waiting, declared.wait.Whose.Whose}
 use Rattle.mlt_work_waits.specs.Waits.{Waits, is_for, others_in, released, nobody_waits}
-use Rattle.mlt_work_waits.specs.declared.wait.Awaited.{Awaited}
-use Rattle.mlt_work_waits.specs.declared.wait.Waiting.{Waiting}
-use Rattle.mlt_work_waits.specs.declared.wait.Whose.{Whose}
 
 fewer_in : (given : Whose) (waits : List Waiting) → length (others_in given waits) ≤ length waits
 fewer_in given [] = omega arith

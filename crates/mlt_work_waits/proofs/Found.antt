@@ -1,7 +1,6 @@
 -- For whom a transaction waits, by a search
 use Rattle.std.proofs.Common.{◌≡◌, ℕ, ◌==◌, Bool, true, false, is_some, cond, List, [], ◌∷◌, Option, None, Some, refl, sym, ◌∙◌, inl, inr, find, ap, option_map, eq-eqb, eqb-true}
-use Rattle.std.specs.Option.{option_or}
-use Rattle.std.proofs.lemmas.Bool.{false≢true}
+use Rattle.std.{specs.Option.option_or, proofs.lemmas.Bool.false≢true}
 use Rattle.mlt_work_waits.specs.declared.wait.Waiting.{Waiting}
 use Rattle.mlt_work_waits.specs.Waits.{IsAmong, IsAwake, IsFor, Waits, holder_in, holder_of, wait_in}
 

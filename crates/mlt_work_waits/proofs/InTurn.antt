@@ -1,15 +1,9 @@
 -- Who waits for its turn waits for one that stands in the queue
 use Rattle.std.proofs.Common.{◌≡◌, ◌∙◌, ◌⊎◌, ℕ, ◌==◌, ◌&&◌, ◌||◌, Bool, true, false, not, cond, nat_lt, is_none, is_some, List, [], ◌∷◌, ◌++◌, length, Option, None, Some, refl, sym, subst, ap, inl, inr, eq-eqb, eqb-true}
-use Rattle.std.specs.List.{list_all}
-use Rattle.std.specs.Option.{option_or}
+use Rattle.std.{specs.List.list_all, specs.Option.option_or, proofs.lemmas.Bool.false≢true}
 use Rattle.mlt_object_kinds.specs.declared.operation.ObjOp.{ObjOp}
 use Rattle.mlt_work_waits.specs.Queues.{with_blocked, without, last_before, may_clash, stands}
-use Rattle.mlt_work_waits.specs.Waits.{is_for, others_in}
-use Rattle.mlt_work_waits.specs.declared.wait.Waiting.{Waiting}
-use Rattle.mlt_work_waits.specs.declared.wait.Whose.{Whose}
-use Rattle.std.proofs.lemmas.Bool.{false≢true}
-use Rattle.mlt_work_waits.specs.declared.blocked_queue.Blocked.{Blocked}
-use Rattle.mlt_work_waits.specs.Turns.{AreInTurn, waits_in_turn}
+use Rattle.mlt_work_waits.specs.{Waits.is_for, Waits.others_in, declared.wait.Waiting.Waiting, declared.wait.Whose.Whose, declared.blocked_queue.Blocked.Blocked, Turns.AreInTurn, Turns.waits_in_turn}
 
 -- the same by cases
 abbrev WaitsInTurn : Waiting → List Blocked → Type 0

@@ -1,13 +1,8 @@
 -- Walking a cycle of waits for objects, and which of them is the youngest
 use Rattle.std.proofs.Common.{◌≡◌, ◌⊎◌, ◌∙◌, ◌+◌, ◌<◌, ℕ, true, false, List, [], ◌∷◌, ◌++◌, length, Option, None, Some, refl, sym, subst, ap, inl, inr, arith, le-ltb, ltb-false, ltb-true, option_map}
-use Rattle.std.proofs.lemmas.Bool.{false≢true}
-use Rattle.std.specs.Option.{option_or}
-use Rattle.mlt_work_waits.specs.declared.wait.Waiting.{Waiting}
+use Rattle.std.{proofs.lemmas.Bool.false≢true, specs.Option.option_or}
+use Rattle.mlt_work_waits.{specs.declared.wait.Waiting.Waiting, proofs.Acyclic.leads_on, proofs.Acyclic.objects_are_acyclic, proofs.Ends.ways_end, proofs.Found.found_is_wait, proofs.Ways.leads_by_holder, proofs.Ways.leads_nowhere, proofs.Ways.one_longer, proofs.Ways.one_more_by}
 use Rattle.mlt_work_waits.specs.Waits.{Deadlocks, IsAcyclic, IsFor, IsOnWay, IsYoungest, LeadsBy, LeadsTo, Waits, for_objects, holder_of, is_later, is_younger, wait_in}
-use Rattle.mlt_work_waits.proofs.Acyclic.{leads_on, objects_are_acyclic}
-use Rattle.mlt_work_waits.proofs.Ends.{ways_end}
-use Rattle.mlt_work_waits.proofs.Found.{found_is_wait}
-use Rattle.mlt_work_waits.proofs.Ways.{leads_by_holder, leads_nowhere, one_longer, one_more_by}
 
 -- who is not younger than one that is not younger than a third is not younger than that one
 not_later : (a b c : Option ℕ) → is_later a b ≡ false → is_later b c ≡ false → is_later a c ≡ false

@@ -1,7 +1,6 @@
 -- What a gate tells apart.
 use Rattle.std.specs.Prelude.{Bool, true, false}
-use Rattle.mlt_event.specs.declared.answer.Answer.{Answer}
-use Rattle.mlt_event.specs.declared.told.Told.{Told}
+use Rattle.mlt_event.specs.declared.{answer.Answer.Answer, told.Told.Told}
 
 -- whether one that was told this is to wait
 abbrev pub is_to_wait : Told → Bool

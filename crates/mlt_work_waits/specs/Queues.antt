@@ -1,13 +1,7 @@
 -- Operations that were blocked, in order, and which may clash.
 use Rattle.std.specs.Prelude.{ℕ, ◌≡◌, ◌==◌, ◌&&◌, not, nat_lt, Bool, true, false, List, [], ◌∷◌, ◌++◌, length, if◌then◌else◌, Option, None, Some, filter}
-use Rattle.std.specs.List.{list_any}
-use Rattle.std.specs.Option.{option_or}
-use Rattle.mlt_object_kinds.specs.declared.account.AccountOp.{AccountOp}
-use Rattle.mlt_object_kinds.specs.declared.counter.CounterOp.{CounterOp}
-use Rattle.mlt_object_kinds.specs.declared.element.ElementOp.{ElementOp}
-use Rattle.mlt_object_kinds.specs.declared.operation.ObjOp.{ObjOp}
-use Rattle.mlt_object_kinds.specs.declared.operation.ObjOp.TheVariants.{Account, Element, Counter, Size}
-use Rattle.mlt_object_kinds.specs.declared.operation.ObjReply.{ObjReply}
+use Rattle.std.specs.{List.list_any, Option.option_or}
+use Rattle.mlt_object_kinds.specs.declared.{account.AccountOp.AccountOp, counter.CounterOp.CounterOp, element.ElementOp.ElementOp, operation.ObjOp.ObjOp, operation.ObjOp.TheVariants.Account, operation.ObjOp.TheVariants.Element, operation.ObjOp.TheVariants.Counter, operation.ObjOp.TheVariants.Size, operation.ObjReply.ObjReply}
 use Rattle.mlt_object_conflicts.specs.Clashes.{clashes}
 use Rattle.mlt_work_waits.specs.declared.blocked_queue.Blocked.{Blocked}
 

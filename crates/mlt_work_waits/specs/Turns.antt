@@ -1,19 +1,9 @@
 -- How desks wait, and what wakes them.
 use Rattle.std.specs.Prelude.{ℕ, ◌≡◌, ◌==◌, ◌+◌, ◌<◌, ◌≤◌, ◌⊎◌, nat_lt, length, if◌then◌else◌, Bool, true, false, List, [], ◌++◌, ◌||◌, is_some, Option, None, Some}
 use Rattle.std.specs.List.{list_all}
-use Rattle.mlt_event.specs.declared.answer.Answer.{Answer}
-use Rattle.mlt_event.specs.declared.event.Event.{Event}
-use Rattle.mlt_event.specs.declared.told.Told.{Told}
+use Rattle.mlt_event.specs.declared.{answer.Answer.Answer, event.Event.Event, told.Told.Told}
 use Rattle.mlt_work_waits.specs.Waits.{Waits, CanJoin, CantJoin, Deadlocks, IsYoungest, joined, nobody_waits, released, wakers_in}
-use Rattle.mlt_work_waits.specs.declared.wait.Awaited.{Awaited}
-use Rattle.mlt_work_waits.specs.declared.wait.Waker.{Waker}
-use Rattle.mlt_work_waits.specs.declared.wait.Waiting.{Waiting}
-use Rattle.mlt_work_waits.specs.declared.wait.Whose.{Whose}
-use Rattle.mlt_work_waits.specs.declared.blocked_queue.Blocked.{Blocked}
-use Rattle.mlt_work_waits.specs.Queues.{stands, with_blocked, without}
-use Rattle.mlt_work_waits.specs.declared.turn.GivenBack.{GivenBack}
-use Rattle.mlt_work_waits.specs.declared.turn.SleepingThread.{SleepingThread}
-use Rattle.mlt_work_waits.specs.declared.turn.Turn.{Turn}
+use Rattle.mlt_work_waits.specs.{declared.wait.Awaited.Awaited, declared.wait.Waker.Waker, declared.wait.Waiting.Waiting, declared.wait.Whose.Whose, declared.blocked_queue.Blocked.Blocked, Queues.stands, Queues.with_blocked, Queues.without, declared.turn.GivenBack.GivenBack, declared.turn.SleepingThread.SleepingThread, declared.turn.Turn.Turn}
 
 -- told this, it is done
 abbrev pub is_done : Told → Bool

@@ -1,10 +1,7 @@
 -- Which transactions wait for which.
 use Rattle.std.specs.Prelude.{ℕ, ◌≡◌, ◌==◌, ◌<◌, ◌⊎◌, ◌&&◌, nat_lt, Bool, true, false, not, List, [], ◌∷◌, ◌++◌, length, map, find, Option, None, Some, is_none, filter, option_map}
 use Rattle.std.specs.Option.{option_or}
-use Rattle.mlt_work_waits.specs.declared.wait.Awaited.{Awaited}
-use Rattle.mlt_work_waits.specs.declared.wait.Waker.{Waker}
-use Rattle.mlt_work_waits.specs.declared.wait.Waiting.{Waiting}
-use Rattle.mlt_work_waits.specs.declared.wait.Whose.{Whose}
+use Rattle.mlt_work_waits.specs.declared.wait.{Awaited.Awaited, Waker.Waker, Waiting.Waiting, Whose.Whose}
 
 -- who waits for a lock of an object, and who for a lock of a page
 pub record Waits : Type 0 where

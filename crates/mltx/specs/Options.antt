@@ -1,7 +1,6 @@
 -- What the options of a server are made of.
 use Rattle.std.specs.Prelude.{◌≡◌, ◌<◌, ◌+◌, ◌-◌, ◌*◌, ◌^◌, ℕ, Bool, true, false, Option, None, Some}
-use Rattle.std.specs.Duration.{as_nanos}
-use Rattle.std.specs.declared.time.Duration.{Duration}
+use Rattle.std.specs.{Duration.as_nanos, declared.time.Duration.Duration}
 use Rattle.mlt_types.specs.declared.limits.Limits.{Limits}
 use Rattle.mlt_cli.specs.declared.words.Connections.{Connections}
 

@@ -1,10 +1,7 @@
 use Rattle.std.proofs.Common.{◌≡◌, ◌++◌, List, ℕ, OnErr, OnOk, ap, subst, ◌∙◌}
-use Rattle.std.proofs.lemmas.Fmt.{contents_after_writes}
-use Rattle.std.specs.Io.KnownBytes.{Appends}
+use Rattle.std.{proofs.lemmas.Fmt.contents_after_writes, specs.Io.KnownBytes.Appends}
 use Rattle.mlt_text.specs.Texts.{AppendsFront}
-use Rattle.mlt_cli.specs.Faults.{fault_text}
-use Rattle.mlt_cli.proofs.fault.report_fault.Given.{Over}
-use Rattle.mlt_cli.proofs.fault.report_fault.Goals.{After-as_bytes}
+use Rattle.mlt_cli.{specs.Faults.fault_text, proofs.fault.report_fault.Given.Over, proofs.fault.report_fault.Goals.After-as_bytes}
 use Rattle.mlt_cli.proofs.fault.report_fault.Goals as goal
 
 -- the bytes that are written are the line

@@ -3,8 +3,7 @@ use Rattle.std.specs.FinSet as set
 use Rattle.mlt_hash.proofs.Names.{Refusal, is_live_of, Page, Live, HasFileOver, LocalState, local, view_over, IsNowhere, SetsFirst, has_room, HasHalves, IsUnderWay, MayBegin, SplitTarget, IsAtRest, IsAdding, WalkContext, WalkFields, split_target, context_in, view_for, TellsOfAdding, walk_step, Phase, WalkAnswer}
 use Rattle.mlt_hash_split.proofs.HeldPages.{clean_now}
 use Rattle.mlt_hash.proofs.Puts.{adding_at, adding_plans, target_is, begin_is_refused, begins_split, begun_alike, found_below, full_is_shallow, has_to_split, may_begin, may_put, need_not_split, nowhere, put_has_room, put_tells}
-use Rattle.mlt_hash.proofs.adding.add_or_split.Given.{Over}
-use Rattle.mlt_hash.proofs.adding.add_or_split.Goals.{Start}
+use Rattle.mlt_hash.proofs.adding.add_or_split.{Given.Over, Goals.Start}
 use Rattle.mlt_hash.proofs.adding.add_or_split.Goals as goal
 
 -- where the walk stands

@@ -1,9 +1,7 @@
 use Rattle.std.proofs.Common.{◌≡◌, is_some, true, ap, refl, sym, ◌∙◌}
 use Rattle.mlt_hash.proofs.Names.{false≢true, BucketFields, LocalState, local, WalkFields, context_in, view_for, IsFull, directory_depth_of, Pass, Phase}
-use Rattle.mlt_hash.proofs.InPlace.{absent_at, at_bucket_without, holds_bucket, reads_bucket}
+use Rattle.mlt_hash.proofs.{InPlace.absent_at, InPlace.at_bucket_without, InPlace.holds_bucket, InPlace.reads_bucket, change.without_room.Given.Over, change.without_room.Goals.After-held_bucket-number, change.without_room.Goals.After-next_pass-next}
 use Rattle.mlt_hash.proofs.Resting.{TellsNext, adding_tells, few_at_bucket, first_is_not_wide, first_tells, full_bucket, no_room_tells, narrow_is_not_wide, shallow, tells_next, tells_next_by, widen_tells, within_limit}
-use Rattle.mlt_hash.proofs.change.without_room.Given.{Over}
-use Rattle.mlt_hash.proofs.change.without_room.Goals.{After-held_bucket-number, After-next_pass-next}
 use Rattle.mlt_hash.proofs.change.without_room.Goals as goal
 
 pub held_bucket-number-requires-clause-held : goal.held_bucket-number-requires-clause-held

@@ -1,11 +1,6 @@
 use Rattle.std.proofs.Common.{◌≡◌, ◌+◌, Some, is_some, sym, ap, ◌∙◌, arith}
 use Rattle.mlt_hash.proofs.Names.{BucketFields, Page, LocalState, local, ReadsPage, view_of, rebased_reads_page, reads_held_after, reads_seen, value_in, over, bucket_mode, IsPlaced, MayWalk, WalkFields, view_for, Phase}
-use Rattle.mlt_hash.proofs.Beside.{few_before, few_beside}
-use Rattle.mlt_hash.proofs.Paths.{arrived, bucket_there}
-use Rattle.mlt_hash.proofs.Readings.{is_there, reads_clean}
-use Rattle.mlt_hash.proofs.Standing.{stands_at}
-use Rattle.mlt_hash.proofs.path.read_bucket.Given.{Over}
-use Rattle.mlt_hash.proofs.path.read_bucket.Goals.{Start}
+use Rattle.mlt_hash.proofs.{Beside.few_before, Beside.few_beside, Paths.arrived, Paths.bucket_there, Readings.is_there, Readings.reads_clean, Standing.stands_at, path.read_bucket.Given.Over, path.read_bucket.Goals.Start}
 use Rattle.mlt_hash.proofs.path.read_bucket.Goals as goal
 
 abbrev before : (g : Over) → Start g → LocalState

@@ -1,11 +1,6 @@
 use Rattle.std.proofs.Common.{◌≡◌, ℕ, List, ◌+◌, Some, is_some, sym, ap, ◌∙◌, arith}
 use Rattle.mlt_hash.proofs.Names.{Page, LocalState, local, ReadsPage, view_of, rebased_reads_page, reads_held_after, reads_seen, over, directory_mode, IsHeaded, MayWalk, WalkFields, view_for, Phase}
-use Rattle.mlt_hash.proofs.Beside.{few_before, few_beside}
-use Rattle.mlt_hash.proofs.Paths.{dir_there, placed}
-use Rattle.mlt_hash.proofs.Readings.{is_there, reads_clean}
-use Rattle.mlt_hash.proofs.Standing.{stands_at}
-use Rattle.mlt_hash.proofs.path.read_directory.Given.{Over}
-use Rattle.mlt_hash.proofs.path.read_directory.Goals.{Start}
+use Rattle.mlt_hash.proofs.{Beside.few_before, Beside.few_beside, Paths.dir_there, Paths.placed, Readings.is_there, Readings.reads_clean, Standing.stands_at, path.read_directory.Given.Over, path.read_directory.Goals.Start}
 use Rattle.mlt_hash.proofs.path.read_directory.Goals as goal
 
 abbrev before : (g : Over) → Start g → LocalState

@@ -1,10 +1,6 @@
 use Rattle.std.proofs.Common.{◌≡◌, ℕ, ◌/◌, ◌%◌, slice_index, Some, refl, sym, ap, subst, ◌∙◌, arith}
 use Rattle.mlt_hash.proofs.Names.{first_bits, HeadFields, Page, HasCleanFile, LocalState, local, no_writes, ReadsPage, view_of, unwritten_anew, reads_held_after, reads_seen, header_mode, Before, IsAtStart, MayWalk, WalkFields, context_after, nothing_before, one_key, view_for, Phase}
-use Rattle.mlt_hash.proofs.Paths.{head_there, headed, header_there}
-use Rattle.mlt_hash.proofs.Readings.{few_held, is_there, none_held, reads_clean}
-use Rattle.mlt_hash.proofs.Standing.{stands_at}
-use Rattle.mlt_hash.proofs.path.read_header.Given.{Over}
-use Rattle.mlt_hash.proofs.path.read_header.Goals.{Start}
+use Rattle.mlt_hash.proofs.{Paths.head_there, Paths.headed, Paths.header_there, Readings.few_held, Readings.is_there, Readings.none_held, Readings.reads_clean, Standing.stands_at, path.read_header.Given.Over, path.read_header.Goals.Start}
 use Rattle.mlt_hash.proofs.path.read_header.Goals as goal
 
 abbrev before : (g : Over) → Start g → LocalState

@@ -1,9 +1,6 @@
 use Rattle.std.proofs.Common.{ap, refl}
 use Rattle.mlt_hash_access.proofs.Names.{page_at, seen_as, LocalState, local, LocksPage}
-use Rattle.mlt_hash_access.proofs.Leaving.{leaves_by_locking, leaves_it}
-use Rattle.mlt_hash_access.proofs.Results.{lock_granted}
-use Rattle.mlt_hash_access.proofs.Views.{lock_reads}
-use Rattle.mlt_hash_access.proofs.pages.lock.Goals.{After-ask, In-Held}
+use Rattle.mlt_hash_access.proofs.{Leaving.leaves_by_locking, Leaving.leaves_it, Results.lock_granted, Views.lock_reads, pages.lock.Goals.After-ask, pages.lock.Goals.In-Held}
 use Rattle.mlt_hash_access.proofs.pages.lock.Goals as goal
 
 abbrev before : After-ask → LocalState

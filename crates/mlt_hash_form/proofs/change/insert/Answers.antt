@@ -1,9 +1,7 @@
 use Rattle.std.proofs.Common.{sym}
 use Rattle.std.proofs.lemmas.List.Quantifiers.{position-Some}
 use Rattle.mlt_page.specs.declared.slot.Slot.TheVariants.{Free, Live}
-use Rattle.mlt_hash_form.specs.Plans.{has_room}
-use Rattle.mlt_hash_form.proofs.Places.{nowhere, first_found}
-use Rattle.mlt_hash_form.proofs.Changes.{put_sets_pair}
+use Rattle.mlt_hash_form.{specs.Plans.has_room, proofs.Places.nowhere, proofs.Places.first_found, proofs.Changes.put_sets_pair}
 use Rattle.mlt_hash_form.proofs.change.insert.Goals as goal
 
 pub returns-in_err-at-clause-plan : goal.returns-in_err-at-clause-plan

@@ -1,9 +1,7 @@
 use Rattle.std.proofs.Common.{sym}
 use Rattle.std.proofs.lemmas.List.Quantifiers.{position-Some}
-use Rattle.mlt_page.specs.Slots.{is_live_of}
-use Rattle.mlt_page.specs.declared.slot.Slot.TheVariants.{Free, Live}
-use Rattle.mlt_hash_form.proofs.Places.{nowhere, first_found}
-use Rattle.mlt_hash_form.proofs.Changes.{update_sets_pair}
+use Rattle.mlt_page.specs.{Slots.is_live_of, declared.slot.Slot.TheVariants.Free, declared.slot.Slot.TheVariants.Live}
+use Rattle.mlt_hash_form.proofs.{Places.nowhere, Places.first_found, Changes.update_sets_pair}
 use Rattle.mlt_hash_form.proofs.change.update.Goals as goal
 
 pub returns-in_err-at-clause-plan : goal.returns-in_err-at-clause-plan

@@ -1,6 +1,5 @@
 use Rattle.std.specs.FinMap as map
-use Rattle.mlt_hash_form.proofs.PrefixForm.{once_live}
-use Rattle.mlt_hash_form.proofs.RecordMap.{records_are_the_map}
+use Rattle.mlt_hash_form.proofs.{PrefixForm.once_live, RecordMap.records_are_the_map}
 use Rattle.mlt_hash_form.proofs.record_laws.records_are_a_map.Goals as goal
 
 pub returns : goal.returns

@@ -1,12 +1,8 @@
 use Rattle.mlt_hash_split.proofs.Names.{pow-le-pow_right, Exclusive, Page, IsDoubled, LocalState, local, LocksPage, SplitPhase, SplitFields, view_of, view_over, first_bits, the_view, reads_held_after, reads_seen, rebased_reads_page, rebased_writes_page, leaves_by_locking, leaves_by_rewriting, leaves_it, same_local}
 use Rattle.std.proofs.Common.{◌≡◌, ℕ, ◌+◌, ◌*◌, ◌≤◌, ◌^◌, Some, ap, sym, subst, refl, arith}
 use Rattle.mlt_hash_split.proofs.HeldPages.{agrees_later, clean_now, file_is_there, header_as_read, reads_held}
-use Rattle.mlt_hash_split.proofs.Steps.{done_at, left_at, next_page_at}
-use Rattle.mlt_hash_split.proofs.Few.{split_holds_few}
-use Rattle.mlt_hash_split.proofs.Later.{locked_may_be_written}
+use Rattle.mlt_hash_split.proofs.{Steps.done_at, Steps.left_at, Steps.next_page_at, Few.split_holds_few, Later.locked_may_be_written, pages.double_page.Given.Over, pages.double_page.Goals.After-first_bits, pages.double_page.Goals.Start, pages.double_page.Goals.then-split-lt8, pages.double_page.Goals.else-split-lt8}
 use Rattle.mlt_hash_split.proofs.Doubling.{IsRewrite, depth_of_double, goes_on_to_the_only_header, goes_on_to_the_second_half, next_is_read, next_is_there}
-use Rattle.mlt_hash_split.proofs.pages.double_page.Given.{Over}
-use Rattle.mlt_hash_split.proofs.pages.double_page.Goals.{After-first_bits, Start, then-split-lt8, else-split-lt8}
 use Rattle.mlt_hash_split.proofs.pages.double_page.Goals as goal
 
 few : (g : Over) (c : After-first_bits g) → 2 ^ c.split.inside.directory_depth ≤ 2 ^ 16

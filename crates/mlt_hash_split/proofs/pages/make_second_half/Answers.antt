@@ -1,14 +1,8 @@
 use Rattle.std.proofs.Common.{◌≡◌, ◌<◌, ◌≤◌, ◌-◌, ◌*◌, ◌%◌, ◌^◌, ap, arith}
 use Rattle.std.proofs.lemmas.Nat.{one_shl}
 use Rattle.mlt_hash_split.proofs.Names.{local, SplitFields, SplitPhase, the_view, Page, view_of, view_over, rebased_makes_page, leaves_it, same_local}
-use Rattle.mlt_hash_split.proofs.HeldPages.{clean_now}
-use Rattle.mlt_hash_split.proofs.Steps.{done_at, left_at, makes_second_half}
+use Rattle.mlt_hash_split.proofs.{HeldPages.clean_now, Steps.done_at, Steps.left_at, Steps.makes_second_half, Few.split_holds_few, Later.refused_to_make, SecondHalf.depth_of_second_half, SecondHalf.place_of_second_half, SecondHalf.goes_on_to_another_page, SecondHalf.goes_on_to_the_header, pages.make_second_half.Given.Over, pages.make_second_half.Goals.Start, pages.make_second_half.Goals.then-place-split, pages.make_second_half.Goals.else-place-split}
 use Rattle.mlt_hash_access.proofs.Leaving.{leaves_by_making}
-use Rattle.mlt_hash_split.proofs.Few.{split_holds_few}
-use Rattle.mlt_hash_split.proofs.Later.{refused_to_make}
-use Rattle.mlt_hash_split.proofs.SecondHalf.{depth_of_second_half, place_of_second_half, goes_on_to_another_page, goes_on_to_the_header}
-use Rattle.mlt_hash_split.proofs.pages.make_second_half.Given.{Over}
-use Rattle.mlt_hash_split.proofs.pages.make_second_half.Goals.{Start, then-place-split, else-place-split}
 use Rattle.mlt_hash_split.proofs.pages.make_second_half.Goals as goal
 
 place : (g : Over) (c : Start g) → c.args.place < 128

@@ -1,8 +1,6 @@
 use Rattle.std.proofs.Common.{◌≡◌, ℕ, true, sym, ap, subst, arith}
 use Rattle.mlt_hash_split.proofs.Names.{HeadFields, Page, can_write, SplitFields, WritesPage, view_of, local, SplitPhase, rebased_writes_page, leaves_by_writing, leaves_it, same_local}
-use Rattle.mlt_hash_split.proofs.HeldPages.{clean_now}
-use Rattle.mlt_hash_split.proofs.Steps.{done_at, header_is_written, left_at}
-use Rattle.mlt_hash_split.proofs.Header.{depth_of_header, header_may_be_written, rests_at_header}
+use Rattle.mlt_hash_split.proofs.{HeldPages.clean_now, Steps.done_at, Steps.header_is_written, Steps.left_at, Header.depth_of_header, Header.header_may_be_written, Header.rests_at_header}
 use Rattle.mlt_hash_split.proofs.pages.write_header.Goals as goal
 
 pub write_held-requires-clause-held : goal.write_held-requires-clause-held

@@ -1,11 +1,8 @@
 use Rattle.std.proofs.Common.{◌≡◌, ◌≤◌, ◌<◌, ◌+◌, ◌^◌, Some, refl, sym, ap, subst, arith}
 use Rattle.mlt_hash_split.proofs.Names.{pow-le-pow_right, Exclusive, Page, LocalState, local, LocksPage, view_over, ReadsPage, view_of, SplitFields, GoesOn, SplitPhase, rebased_reads_page, rebased_writes_page, leaves_by_locking, leaves_by_rewriting, leaves_it, same_local, reads_held_after, reads_seen}
 use Rattle.mlt_hash_split.proofs.HeldPages.{agrees_later, clean_later, clean_now, file_is_there, header_as_read, reads_held}
-use Rattle.mlt_hash_split.proofs.Closing.{HasClean}
-use Rattle.mlt_hash_split.proofs.Few.{split_holds_few}
-use Rattle.mlt_hash_split.proofs.Later.{locked_may_be_written}
+use Rattle.mlt_hash_split.proofs.{Closing.HasClean, Few.split_holds_few, Later.locked_may_be_written, Steps.done_at, Steps.left_at, Steps.next_page_at}
 use Rattle.mlt_hash_split.proofs.InPlace.{AreNewPlaces, IsMadeInPlace, depths_here, end_is_small, in_place_goes_on, in_place_rests, next_is_dir, next_is_there, place_before_end, place_is_small}
-use Rattle.mlt_hash_split.proofs.Steps.{done_at, left_at, next_page_at}
 use Rattle.mlt_hash_split.proofs.pages.write_in_place.Goals as goal
 
 pub read_held_head-header-requires-clause-head : goal.read_held_head-header-requires-clause-head

@@ -1,9 +1,6 @@
 use Rattle.std.proofs.Common.{◌≡◌, sym, ◌∙◌, ap, subst}
 use Rattle.mlt_hash_split.proofs.Names.{Page, rebased_writes_page, IsFirstPhase, local, WritesHeldPage, view_over, view_of, IsUnderWay, SplitFields, GoesOn, SplitPhase, leaves_by_writing, leaves_it, same_local}
-use Rattle.mlt_hash_split.proofs.HeldPages.{clean_now}
-use Rattle.mlt_hash_split.proofs.Later.{begins_now}
-use Rattle.mlt_hash_split.proofs.Steps.{done_at, left_at}
-use Rattle.mlt_hash_split.proofs.OldBucket.{depths_are_small, old_bucket_step}
+use Rattle.mlt_hash_split.proofs.{HeldPages.clean_now, Later.begins_now, Steps.done_at, Steps.left_at, OldBucket.depths_are_small, OldBucket.old_bucket_step}
 use Rattle.mlt_hash_split.proofs.pages.write_old_bucket.Goals as goal
 
 pub first_directory_step-split-inside-requires : goal.first_directory_step-split-inside-requires

@@ -1,6 +1,5 @@
 use Rattle.std.proofs.Common.{ap, sym, subst, ◌∙◌}
-use Rattle.mlt_page_locks.specs.LockTables.{LockTable, HasAtMost}
-use Rattle.mlt_page_locks.proofs.LockLaws.{few_none}
+use Rattle.mlt_page_locks.{specs.LockTables.LockTable, specs.LockTables.HasAtMost, proofs.LockLaws.few_none}
 use Rattle.mlt_hash_tests.proofs.page_locks.new_desk.Goals as goal
 
 pub invariant_of-result : goal.invariant_of-result

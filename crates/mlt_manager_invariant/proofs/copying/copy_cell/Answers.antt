@@ -1,9 +1,6 @@
 use Rattle.std.proofs.Common.{◌≡◌, ◌∙◌, ℕ, Some, Result, Ok, Err, OnOk, ap, subst, sym}
-use Rattle.mlt_types.specs.declared.cell.Cell.{Cell}
-use Rattle.mlt_types.specs.declared.refusal.Refusal.{Refusal}
-use Rattle.mlt_object_kinds.proofs.BaseLaws.{state_beside, state_here}
-use Rattle.mlt_object_kinds.specs.Bases.{Base, SameBut, state_at, with_state}
-use Rattle.mlt_object_kinds.specs.Cells.CellState.{AccountState}
+use Rattle.mlt_types.specs.declared.{cell.Cell.Cell, refusal.Refusal.Refusal}
+use Rattle.mlt_object_kinds.{proofs.BaseLaws.state_beside, proofs.BaseLaws.state_here, specs.Bases.Base, specs.Bases.SameBut, specs.Bases.state_at, specs.Bases.with_state, specs.Cells.CellState.AccountState}
 use Rattle.mlt_object_base.specs.Records.{state_of_record}
 use Rattle.mlt_manager_invariant.proofs.copying.copy_cell.Goals as goal
 

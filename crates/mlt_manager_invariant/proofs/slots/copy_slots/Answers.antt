@@ -1,7 +1,6 @@
 use Rattle.std.proofs.Common.{List, subst, arith, take_all}
 use Rattle.mlt_page.specs.declared.slot.Slot.{Slot}
-use Rattle.mlt_manager_invariant.specs.Copies.{CopiesSlots}
-use Rattle.mlt_manager_invariant.proofs.OneByOne.{nothing_copied, one_of_slots, went_on}
+use Rattle.mlt_manager_invariant.{specs.Copies.CopiesSlots, proofs.OneByOne.nothing_copied, proofs.OneByOne.one_of_slots, proofs.OneByOne.went_on}
 use Rattle.mlt_manager_invariant.proofs.slots.copy_slots.Goals as goal
 
 pub loop-slot-init : goal.loop-slot-init

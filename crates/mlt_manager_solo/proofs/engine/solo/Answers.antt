@@ -1,6 +1,5 @@
 use Rattle.std.proofs.Common.{Err, ap, flat_map}
-use Rattle.std.proofs.KnownBytes.{Keeps-refl}
-use Rattle.std.proofs.lemmas.Result.{err_from_is_err_and}
+use Rattle.std.proofs.{KnownBytes.Keeps-refl, lemmas.Result.err_from_is_err_and}
 use Rattle.mlt_text.proofs.Failing.{finished, unfinished, unread, unwritten}
 use Rattle.mlt_manager_solo.proofs.Names.{outcome_text}
 use Rattle.mlt_manager_solo.proofs.Alls.{new_rests, solo_text}

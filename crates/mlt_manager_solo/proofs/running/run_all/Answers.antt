@@ -2,8 +2,7 @@ use Rattle.std.proofs.Common.{◌≡◌, ◌+◌, ◌<◌, ◌++◌, ◌∷◌, 
 use Rattle.std.proofs.lemmas.List.{take_more, get_or-replicate, length-replicate}
 use Rattle.mlt_manager_solo.proofs.Names.{ScriptForm, HasRunAll}
 use Rattle.mlt_script_serial.proofs.Appends.{counted_push, next_number}
-use Rattle.mlt_manager_solo.proofs.Alls.{none_run, one_more_run}
-use Rattle.mlt_manager_solo.proofs.AtDesk.{run_at_rest}
+use Rattle.mlt_manager_solo.proofs.{Alls.none_run, Alls.one_more_run, AtDesk.run_at_rest}
 use Rattle.mlt_manager_solo.proofs.running.run_all.Goals as goal
 
 pub loop-script-init : goal.loop-script-init

@@ -1,6 +1,5 @@
 use Rattle.std.proofs.Common.{ap, Err, inl, inr, string_bytes}
-use Rattle.std.proofs.KnownBytes.{Keeps-refl}
-use Rattle.std.proofs.lemmas.Result.{err_from_is_err_and}
+use Rattle.std.proofs.{KnownBytes.Keeps-refl, lemmas.Result.err_from_is_err_and}
 use Rattle.mlt_text.proofs.Failing.{finished, unfinished, unread, unwritten}
 use Rattle.mlt_manager_steps.proofs.StepsTexts.{is_steps_text}
 use Rattle.mlt_manager_steps.proofs.steps_engine.steps.Goals as goal

@@ -1,5 +1,4 @@
-use Rattle.mlt_object_base.proofs.Meanings.{one_meaning}
-use Rattle.mlt_object_base.proofs.OperationChanges.{means_step, means_step_back, tells_size}
+use Rattle.mlt_object_base.proofs.{Meanings.one_meaning, OperationChanges.means_step, OperationChanges.means_step_back, OperationChanges.tells_size}
 use Rattle.mlt_object_base.proofs.meaning.records_mean_bases.Goals as goal
 
 pub returns : goal.returns

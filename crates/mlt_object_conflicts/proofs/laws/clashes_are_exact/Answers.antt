@@ -1,5 +1,4 @@
-use Rattle.mlt_object_conflicts.proofs.BaseBreaks.{clashing_break}
-use Rattle.mlt_object_conflicts.proofs.BaseCommutes.{apart_do_not_clash, clash_free_commute}
+use Rattle.mlt_object_conflicts.proofs.{BaseBreaks.clashing_break, BaseCommutes.apart_do_not_clash, BaseCommutes.clash_free_commute}
 use Rattle.mlt_object_conflicts.proofs.laws.clashes_are_exact.Goals as goal
 
 pub returns : goal.returns

@@ -1,7 +1,5 @@
 use Rattle.mlt_object_conflicts.proofs.Names.{Step, empty_base}
-use Rattle.mlt_order.specs.Histories.{lists_of}
-use Rattle.mlt_order.proofs.Keeping.{kept_by_history, last_goes}
-use Rattle.mlt_order.proofs.UndoLaws.{one_base}
+use Rattle.mlt_order.{specs.Histories.lists_of, proofs.Keeping.kept_by_history, proofs.Keeping.last_goes, proofs.UndoLaws.one_base}
 use Rattle.mlt_object_conflicts.proofs.BaseOrder.{base_functional, base_injective}
 use Rattle.mlt_object_conflicts.proofs.laws.every_history_of_bases_is_serializable.Goals as goal
 

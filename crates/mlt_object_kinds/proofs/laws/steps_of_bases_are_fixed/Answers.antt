@@ -1,5 +1,4 @@
-use Rattle.mlt_object_kinds.proofs.BaseLaws.{base_one_answer, base_one_start, same_base, step_to}
-use Rattle.mlt_object_kinds.proofs.CommutingLaws.{few_cells}
+use Rattle.mlt_object_kinds.proofs.{BaseLaws.base_one_answer, BaseLaws.base_one_start, BaseLaws.same_base, BaseLaws.step_to, CommutingLaws.few_cells}
 use Rattle.mlt_object_kinds.proofs.laws.steps_of_bases_are_fixed.Goals as goal
 
 pub returns : goal.returns

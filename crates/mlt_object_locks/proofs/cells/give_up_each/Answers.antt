@@ -1,9 +1,7 @@
 use Rattle.std.proofs.Common.{◌+◌, take, sym, subst, ◌∙◌}
 use Rattle.mlt_object_locks.proofs.Names.{take_more, GivesUp}
-use Rattle.mlt_object_locks.proofs.Changes.{gives_up_kept, gives_up_more, nothing_given_up}
-use Rattle.mlt_object_locks.proofs.Membership.{is_among, is_not_among}
+use Rattle.mlt_object_locks.proofs.{Changes.gives_up_kept, Changes.gives_up_more, Changes.nothing_given_up, Membership.is_among, Membership.is_not_among, cells.give_up_each.Goals.then-not-is_among, cells.give_up_each.Goals.else-not-is_among}
 use Rattle.mlt_object_locks.proofs.cells.give_up_each.Goals as goal
-use Rattle.mlt_object_locks.proofs.cells.give_up_each.Goals.{then-not-is_among, else-not-is_among}
 
 pub loop-place-init : goal.loop-place-init
 loop-place-init c = nothing_given_up c.args.cells.now c.args.kept.now c.args.tx c.requires

@@ -1,8 +1,6 @@
 use Rattle.std.proofs.Common.{[], take, ap, sym, subst, ◌∙◌, arith, unwrap_or}
 use Rattle.mlt_object_locks.proofs.Names.{take_more, Contains-get_or, bit_of_item, IsHere, holder_of, GrantsAt, NotesEach, noted_of}
-use Rattle.mlt_object_locks.proofs.Changes.{bits_noted_more, granted_more}
-use Rattle.mlt_object_locks.proofs.Membership.{none_in_empty}
-use Rattle.mlt_object_locks.proofs.Notes.{notes_more}
+use Rattle.mlt_object_locks.proofs.{Changes.bits_noted_more, Changes.granted_more, Membership.none_in_empty, Notes.notes_more}
 use Rattle.mlt_object_locks.proofs.cells.grant_each.Goals as goal
 
 pub unreachable-requires : goal.unreachable-requires

@@ -1,8 +1,7 @@
 use Rattle.std.proofs.Common.{◌+◌, ℕ, Option, Some, take, get_or, ap, sym, subst, ◌∙◌, take_all}
 use Rattle.mlt_object_locks.proofs.Names.{take_more, IsLowestOf, lower_of, StandsAgainst, StandsAtOne, list_at}
-use Rattle.mlt_object_locks.proofs.Clashing.{lowest_with_none, lowest_with_one}
+use Rattle.mlt_object_locks.proofs.{Clashing.lowest_with_none, Clashing.lowest_with_one, cells.lowest_clash.Goals.in-Some, cells.lowest_clash.Goals.in_default}
 use Rattle.mlt_object_locks.proofs.cells.lowest_clash.Goals as goal
-use Rattle.mlt_object_locks.proofs.cells.lowest_clash.Goals.{in-Some, in_default}
 
 pub loop-place-preserved : goal.loop-place-preserved
 loop-place-preserved c =

@@ -1,7 +1,6 @@
 use Rattle.std.proofs.Common.{[], None, ap, sym, subst, unwrap_or}
 use Rattle.mlt_object_locks.proofs.Names.{IsLowestOf, StandsAgainst, list_at}
-use Rattle.mlt_object_locks.proofs.Found.{list_there}
-use Rattle.mlt_object_locks.proofs.Holding.{nobody}
+use Rattle.mlt_object_locks.proofs.{Found.list_there, Holding.nobody}
 use Rattle.mlt_object_locks.proofs.cells.lowest_clash_at.Goals as goal
 
 pub returns-in_err-at : goal.returns-in_err-at

@@ -1,8 +1,7 @@
 use Rattle.std.proofs.Common.{◌+◌, ℕ, take, sym, subst, ◌∙◌, take_all}
 use Rattle.mlt_object_locks.proofs.Names.{take_more, CLASSES}
-use Rattle.mlt_object_locks.proofs.ClassLaws.{HasMarked, all_seen, marked_more, unmarked_more}
+use Rattle.mlt_object_locks.proofs.{ClassLaws.HasMarked, ClassLaws.all_seen, ClassLaws.marked_more, ClassLaws.unmarked_more, classes.marked_beside.Goals.then-are_marked, classes.marked_beside.Goals.else-are_marked}
 use Rattle.mlt_object_locks.proofs.classes.marked_beside.Goals as goal
-use Rattle.mlt_object_locks.proofs.classes.marked_beside.Goals.{then-are_marked, else-are_marked}
 
 pub loop-held-preserved : goal.loop-held-preserved
 loop-held-preserved c =

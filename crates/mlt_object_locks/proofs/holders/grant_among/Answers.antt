@@ -1,7 +1,6 @@
 use Rattle.std.proofs.Common.{get_or, sym, ◌∙◌, true≢false}
 use Rattle.mlt_object_locks.proofs.Names.{bit_of_item}
-use Rattle.mlt_object_locks.proofs.Bits.{some_bit}
-use Rattle.mlt_object_locks.proofs.Holding.{found, granted_once, grants, had_bit}
+use Rattle.mlt_object_locks.proofs.{Bits.some_bit, Holding.found, Holding.granted_once, Holding.grants, Holding.had_bit}
 use Rattle.mlt_object_locks.proofs.holders.grant_among.Goals as goal
 
 pub unreachable-requires : goal.unreachable-requires

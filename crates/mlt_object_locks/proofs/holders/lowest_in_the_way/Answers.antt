@@ -1,8 +1,7 @@
 use Rattle.std.proofs.Common.{◌+◌, ℕ, Option, Some, take, ap, sym, subst, ◌∙◌, true≢false, take_all}
 use Rattle.mlt_object_locks.proofs.Names.{IsLowestInTheWay}
-use Rattle.mlt_object_locks.proofs.Lowest.{front_with, front_without}
+use Rattle.mlt_object_locks.proofs.{Lowest.front_with, Lowest.front_without, holders.lowest_in_the_way.Goals.then-stands_in, holders.lowest_in_the_way.Goals.else-stands_in}
 use Rattle.mlt_object_locks.proofs.holders.lowest_in_the_way.Goals as goal
-use Rattle.mlt_object_locks.proofs.holders.lowest_in_the_way.Goals.{then-stands_in, else-stands_in}
 
 pub loop-holder-preserved : goal.loop-holder-preserved
 loop-holder-preserved c =

@@ -1,6 +1,4 @@
-use Rattle.mlt_order.specs.Histories.{lists_of}
-use Rattle.mlt_order.proofs.Keeping.{kept_by_history}
-use Rattle.mlt_order.proofs.Mixing.{finitely_many_mix}
+use Rattle.mlt_order.{specs.Histories.lists_of, proofs.Keeping.kept_by_history, proofs.Mixing.finitely_many_mix}
 use Rattle.mlt_order.proofs.history.every_history_is_serializable.Goals as goal
 
 pub returns-clause-serializable : goal.returns-clause-serializable

@@ -1,5 +1,4 @@
-use Rattle.mlt_order.specs.Histories.{no_lists}
-use Rattle.mlt_order.proofs.Growing.{follow_to_one}
+use Rattle.mlt_order.{specs.Histories.no_lists, proofs.Growing.follow_to_one}
 use Rattle.mlt_order.proofs.history.history_fixes_its_state.Goals as goal
 
 pub returns : goal.returns

@@ -1,5 +1,4 @@
-use Rattle.mlt_order.specs.Histories.{no_lists}
-use Rattle.mlt_order.proofs.Growing.{follow_push, follow_front, after_entries-push}
+use Rattle.mlt_order.{specs.Histories.no_lists, proofs.Growing.follow_push, proofs.Growing.follow_front, proofs.Growing.after_entries-push}
 use Rattle.mlt_order.proofs.history.history_grows.Goals as goal
 
 pub returns-clause-grows : goal.returns-clause-grows

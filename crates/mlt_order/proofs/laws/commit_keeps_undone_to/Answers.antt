@@ -1,6 +1,4 @@
-use Rattle.mlt_order.proofs.Mixing.{finitely_many_mix, interleaving_without}
-use Rattle.mlt_order.proofs.Parts.{without}
-use Rattle.mlt_order.proofs.UndoLaws.{commit}
+use Rattle.mlt_order.proofs.{Mixing.finitely_many_mix, Mixing.interleaving_without, Parts.without, UndoLaws.commit}
 use Rattle.mlt_order.proofs.laws.commit_keeps_undone_to.Goals as goal
 
 pub returns : goal.returns

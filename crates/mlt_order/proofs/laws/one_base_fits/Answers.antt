@@ -1,7 +1,5 @@
 use Rattle.std.proofs.Common.{[], sym}
-use Rattle.mlt_order.proofs.Mixing.{finitely_many_mix}
-use Rattle.mlt_order.proofs.RunLemmas.{serial_to_one}
-use Rattle.mlt_order.proofs.UndoLaws.{one_base}
+use Rattle.mlt_order.proofs.{Mixing.finitely_many_mix, RunLemmas.serial_to_one, UndoLaws.one_base}
 use Rattle.mlt_order.proofs.laws.one_base_fits.Goals as goal
 
 pub returns-clause-undone : goal.returns-clause-undone

@@ -1,5 +1,4 @@
-use Rattle.mlt_order.proofs.Mixing.{finitely_many_mix}
-use Rattle.mlt_order.proofs.UndoLaws.{undo, undo_goes}
+use Rattle.mlt_order.proofs.{Mixing.finitely_many_mix, UndoLaws.undo, UndoLaws.undo_goes}
 use Rattle.mlt_order.proofs.laws.undo_keeps_undone_to.Goals as goal
 
 pub returns-clause-keeps : goal.returns-clause-keeps

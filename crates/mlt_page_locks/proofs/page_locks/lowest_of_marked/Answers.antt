@@ -2,10 +2,8 @@ use Rattle.std.proofs.Common.{◌≡◌, ap, sym, subst, ◌∙◌, take, take_a
 use Rattle.mlt_page_locks.proofs.Names.{take_more, option_map_or, goes_with, HeldPages}
 use Rattle.std.specs.FinMap as map
 use Rattle.mlt_page_locks.proofs.Conflicts.{in_way_of, IsLowestIfAny, lowest_more, lowest_of_table, same_lowest}
-use Rattle.mlt_page_locks.proofs.Covering.{passed_over}
-use Rattle.mlt_page_locks.proofs.Sharing.{nobody_against_shared}
+use Rattle.mlt_page_locks.proofs.{Covering.passed_over, Sharing.nobody_against_shared, page_locks.lowest_of_marked.Goals.then-conflicts, page_locks.lowest_of_marked.Goals.else-conflicts+else-shares}
 use Rattle.mlt_page_locks.proofs.page_locks.lowest_of_marked.Goals as goal
-use Rattle.mlt_page_locks.proofs.page_locks.lowest_of_marked.Goals.{then-conflicts, else-conflicts+else-shares}
 
 -- what was the lowest up to the start of the search is so up to the next place
 up_to_next : (c : goal.Joined-conflicts) → IsLowestIfAny (in_way_of c.args.tx c.args.page c.args.mode (take c.in-Some.place c.args.lists.now)) c.loop-place.lowest

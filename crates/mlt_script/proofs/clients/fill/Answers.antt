@@ -1,6 +1,5 @@
 use Rattle.std.proofs.Common.{◌<◌, ◌++◌, ◌∷◌, [], List, sym, ap, ◌∙◌, append_assoc, arith, append-nil}
-use Rattle.mlt_script.specs.Scripts.{ScriptForm}
-use Rattle.mlt_script.proofs.Parting.{filled_none, pushed}
+use Rattle.mlt_script.{specs.Scripts.ScriptForm, proofs.Parting.filled_none, proofs.Parting.pushed}
 use Rattle.mlt_script.proofs.clients.fill.Goals as goal
 
 pub loop-script-init : goal.loop-script-init

@@ -1,6 +1,5 @@
 use Rattle.std.proofs.Common.{◌≡◌, ◌++◌, List, length, map}
-use Rattle.mlt_script.specs.Clients.{AreFilled}
-use Rattle.mlt_script.specs.Scripts.{ScriptForm}
+use Rattle.mlt_script.specs.{Clients.AreFilled, Scripts.ScriptForm}
 use Rattle.mlt_script.proofs.clients.fill.Given as goal
 
 abbrev pub invariant-loop-script : goal.invariant-loop-script

@@ -2,10 +2,7 @@ use Rattle.std.proofs.Common.{◌≡◌, ◌+◌, length, [], Err, ap, sym, subs
 use Rattle.std.proofs.lemmas.Result.{err_from_is_err_and}
 use Rattle.mlt_text_words.specs.Lines.{lines}
 use Rattle.mlt_script.proofs.Names.{state_of, IsReading, advance, Advances, Gives, Outside}
-use Rattle.mlt_script.specs.Scan.{scan}
-use Rattle.mlt_script.proofs.Forming.{readings}
-use Rattle.mlt_script.proofs.PlainForms.{asking_line}
-use Rattle.mlt_script.proofs.Scanning.{goes_on, exits, ends}
+use Rattle.mlt_script.{specs.Scan.scan, proofs.Forming.readings, proofs.PlainForms.asking_line, proofs.Scanning.goes_on, proofs.Scanning.exits, proofs.Scanning.ends}
 use Rattle.mlt_script.proofs.parser.read_lines.Goals as goal
 
 pub read-requires : goal.read-requires

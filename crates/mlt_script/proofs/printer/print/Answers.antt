@@ -1,9 +1,6 @@
 use Rattle.std.proofs.Common.{◌≡◌, ◌∷◌, ◌++◌, ◌+◌, [], take, sym, ap, subst, ◌∙◌, string_bytes, take_all}
 use Rattle.std.proofs.lemmas.List.{take_more}
-use Rattle.mlt_script.specs.Again.{AreScriptsAgain}
-use Rattle.mlt_script.specs.Printing.{scripts_text}
-use Rattle.mlt_script.specs.Scripts.{ScriptForm}
-use Rattle.mlt_script.proofs.Printed.{text_more, again_more, spells}
+use Rattle.mlt_script.{specs.Again.AreScriptsAgain, specs.Printing.scripts_text, specs.Scripts.ScriptForm, proofs.Printed.text_more, proofs.Printed.again_more, proofs.Printed.spells}
 use Rattle.mlt_script.proofs.printer.print.Goals as goal
 
 pub loop-script-preserved : goal.loop-script-preserved

@@ -1,6 +1,5 @@
 use Rattle.std.proofs.Common.{◌≡◌, take, string_bytes}
-use Rattle.mlt_script.specs.Again.{AreScriptsAgain}
-use Rattle.mlt_script.specs.Printing.{scripts_text}
+use Rattle.mlt_script.specs.{Again.AreScriptsAgain, Printing.scripts_text}
 use Rattle.mlt_script.proofs.printer.print.Given as goal
 
 abbrev pub invariant-loop-script : goal.invariant-loop-script

@@ -1,6 +1,5 @@
 use Rattle.std.proofs.Common.{◌≡◌, ◌++◌, length, string_bytes}
-use Rattle.mlt_script.specs.Again.{AreReadAgain}
-use Rattle.mlt_script.specs.Printing.{shown}
+use Rattle.mlt_script.specs.{Again.AreReadAgain, Printing.shown}
 use Rattle.mlt_script.proofs.printer.push_lines.Given as goal
 
 abbrev pub invariant-loop-rest : goal.invariant-loop-rest

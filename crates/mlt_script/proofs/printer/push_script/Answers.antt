@@ -1,8 +1,5 @@
 use Rattle.std.proofs.Common.{◌<◌, ◌++◌, ap, subst, ◌∙◌, List, string_bytes}
-use Rattle.mlt_script.specs.declared.statement.Line.{Line}
-use Rattle.mlt_script.specs.Again.{AreReadAgain}
-use Rattle.mlt_script.specs.LineTexts.{ending_text}
-use Rattle.mlt_script.specs.Printing.{as_line, begin_text, block_text, shown}
+use Rattle.mlt_script.specs.{declared.statement.Line.Line, Again.AreReadAgain, LineTexts.ending_text, Printing.as_line, Printing.begin_text, Printing.block_text, Printing.shown}
 use Rattle.mlt_script.proofs.Printed.{shown_whole, script_again, script_joined, on_ok, on_any}
 use Rattle.mlt_script.proofs.printer.push_script.Goals as goal
 

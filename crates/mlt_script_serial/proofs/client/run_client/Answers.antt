@@ -1,8 +1,7 @@
 use Rattle.std.proofs.Common.{rules, ◌≡◌, ◌+◌, ◌∷◌, ◌++◌, ◌∙◌, [], take, length, ap, sym, arith, length-take-le}
 use Rattle.std.proofs.lemmas.List.{take_more}
 use Rattle.mlt_script.specs.Scripts.{ScriptForm}
-use Rattle.mlt_script_serial.specs.Clients.{IsOutcome}
-use Rattle.mlt_script_serial.proofs.Runs.{outcomes_more, runs_more}
+use Rattle.mlt_script_serial.{specs.Clients.IsOutcome, proofs.Runs.outcomes_more, proofs.Runs.runs_more}
 use Rattle.mlt_script_serial.proofs.client.run_client.Goals as goal
 
 pub loop-i-preserved : goal.loop-i-preserved

@@ -1,7 +1,6 @@
 use Rattle.std.proofs.Common.{◌<◌, length, vec_capacity, arith}
 use Rattle.mlt_script_serial.proofs.Names.{questions_of, questions_of_script}
-use Rattle.mlt_script_serial.proofs.Giving.{gives_more}
-use Rattle.mlt_script_serial.proofs.Transcripts.{reaches_more, room_for_more}
+use Rattle.mlt_script_serial.proofs.{Giving.gives_more, Transcripts.reaches_more, Transcripts.room_for_more}
 use Rattle.mlt_script_serial.proofs.playing.play.Goals as goal
 
 pub push_reserved-requires : goal.push_reserved-requires

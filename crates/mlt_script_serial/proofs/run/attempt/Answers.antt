@@ -1,11 +1,8 @@
 use Rattle.std.proofs.Common.{◌≡◌, Err, refl, sym, subst}
 use Rattle.mlt_object_kinds.specs.Bases.{Base, TranscriptLeads, Transcript}
 use Rattle.mlt_script.specs.declared.statement.Ending.{Ending}
-use Rattle.mlt_script_serial.specs.Follows.{Follows}
-use Rattle.mlt_script_serial.specs.declared.base_desk.BaseDesk.{BaseDesk}
-use Rattle.mlt_script_serial.proofs.Played.{plays_partial, plays_runs}
+use Rattle.mlt_script_serial.{specs.Follows.Follows, specs.declared.base_desk.BaseDesk.BaseDesk, proofs.Played.plays_partial, proofs.Played.plays_runs, proofs.run.attempt.Goals.in-Ok-Abort, proofs.run.attempt.Goals.in-Err}
 use Rattle.mlt_script_serial.proofs.run.attempt.Goals as goal
-use Rattle.mlt_script_serial.proofs.run.attempt.Goals.{in-Ok-Abort, in-Err}
 
 abbrev base_of : BaseDesk → Base
 base_of d = d.base

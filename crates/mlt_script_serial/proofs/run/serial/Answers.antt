@@ -1,9 +1,7 @@
 use Rattle.std.proofs.Common.{◌≡◌, map, take, sym, ap, ◌∙◌, take_all}
 use Rattle.mlt_types.specs.declared.refusal.Refusal.TheVariants.{OutOfMemory}
 use Rattle.mlt_object_kinds.specs.Bases.{empty_base}
-use Rattle.mlt_script_serial.specs.declared.outcome.Outcome.{Outcome}
-use Rattle.mlt_script_serial.specs.Serial.{mark_of}
-use Rattle.mlt_script_serial.proofs.Appends.{no_mark, none_of_each, refusal_at}
+use Rattle.mlt_script_serial.{specs.declared.outcome.Outcome.Outcome, specs.Serial.mark_of, proofs.Appends.no_mark, proofs.Appends.none_of_each, proofs.Appends.refusal_at}
 use Rattle.mlt_script_serial.proofs.run.serial.Goals as goal
 
 pub returns-in-Refused-clause-refusal : goal.returns-in-Refused-clause-refusal

@@ -1,8 +1,6 @@
 use Rattle.std.proofs.Common.{◌≡◌, List, [], arith, sym, ◌∙◌, ap, drop}
 use Rattle.mlt_script_serial.proofs.Names.{drop_all, Nowhere, Line}
-use Rattle.mlt_script_serial.proofs.Running.{some_line}
-use Rattle.mlt_script_serial.specs.Runs.{run}
-use Rattle.mlt_script_serial.proofs.Running.{at_end, turn}
+use Rattle.mlt_script_serial.{proofs.Running.some_line, specs.Runs.run, proofs.Running.at_end, proofs.Running.turn}
 use Rattle.mlt_script_serial.proofs.skipping.settled.Goals as goal
 
 pub loop-place-preserved : goal.loop-place-preserved

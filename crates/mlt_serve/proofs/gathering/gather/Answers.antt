@@ -1,7 +1,6 @@
 use Rattle.std.proofs.Common.{rules, ◌++◌, ◌∙◌, arith, subst, sym, IsPermutation}
 use Rattle.mlt_serve.proofs.Names.{All-push, IsPermutation-append_right, IsPermutation-trans, TellsOutcomes, AllHaveMemory, all_outcomes}
-use Rattle.mlt_serve.specs.Threads.{HasMemory, outcomes_of}
-use Rattle.mlt_serve.proofs.Merging.{behind_all, last_behind}
+use Rattle.mlt_serve.{specs.Threads.HasMemory, specs.Threads.outcomes_of, proofs.Merging.behind_all, proofs.Merging.last_behind}
 use Rattle.mlt_serve.proofs.gathering.gather.Goals as goal
 
 pub loop-thread-preserved : goal.loop-thread-preserved

@@ -1,7 +1,6 @@
 use Rattle.std.proofs.Common.{rules, ◌∙◌, subst, sym, IfSome}
 use Rattle.mlt_manager.specs.Managers.{ManagerFields}
-use Rattle.mlt_serve.specs.Loads.{IsHeard}
-use Rattle.mlt_serve.proofs.Loading.{among}
+use Rattle.mlt_serve.{specs.Loads.IsHeard, proofs.Loading.among}
 use Rattle.mlt_serve.proofs.Names.{TellsOutcomes}
 use Rattle.mlt_serve.proofs.serving.serve_with.Goals as goal
 

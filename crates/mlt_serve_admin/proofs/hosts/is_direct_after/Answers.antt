@@ -1,6 +1,5 @@
 use Rattle.std.proofs.Common.{◌≡◌, ◌↔◌, ℕ, List, ◌++◌, Bool, IsTrue, sym, ◌∙◌}
-use Rattle.std.proofs.lemmas.List.{append_cancel_left}
-use Rattle.std.proofs.lemmas.Result.{IfOk-weaker}
+use Rattle.std.proofs.lemmas.{List.append_cancel_left, Result.IfOk-weaker}
 use Rattle.mlt_serve_admin.specs.Hosts.{IsDirectAfter, IsDirectAuthority}
 use Rattle.mlt_serve_admin.proofs.hosts.is_direct_after.Goals as goal
 

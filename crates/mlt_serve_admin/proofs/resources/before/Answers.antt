@@ -1,6 +1,5 @@
 use Rattle.std.proofs.Common.{Option, Some, None, IfSome, IfNone, MatchOption}
-use Rattle.std.proofs.lemmas.Bool.Decides.{Decides-eqb}
-use Rattle.std.proofs.lemmas.Slice.Eq.{strip_suffix_is}
+use Rattle.std.proofs.lemmas.{Bool.Decides.Decides-eqb, Slice.Eq.strip_suffix_is}
 use Rattle.mlt_serve_admin.proofs.resources.before.Goals as goal
 
 -- a fact for each variant, as two

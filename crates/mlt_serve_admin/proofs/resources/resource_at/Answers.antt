@@ -1,7 +1,6 @@
 use Rattle.std.proofs.Common.{ℕ, List, Option, Some, None, IfNone}
-use Rattle.mlt_serve_admin.specs.declared.resources.Resource.{Resource}
+use Rattle.mlt_serve_admin.specs.{declared.resources.Resource.Resource, Resources.IsAt, Resources.IsAtNoFixedPath}
 use Rattle.mlt_serve_admin.specs.declared.resources.Resource.TheVariants.{Page, Status, Metrics, Waits, Sessions, Base, Stop, SessionEnd}
-use Rattle.mlt_serve_admin.specs.Resources.{IsAt, IsAtNoFixedPath}
 use Rattle.mlt_serve_admin.proofs.resources.resource_at.Goals as goal
 
 -- a path that is none of the fixed ones, and no end of a session, is that of no resource

@@ -1,8 +1,7 @@
 use Rattle.std.proofs.Common.{◌++◌, IsPermutation}
 use Rattle.std.proofs.lemmas.List.Sorted.{IsPermutation-append_comm, IsPermutation-refl}
-use Rattle.mlt_serve_session.proofs.Joining.{joined}
+use Rattle.mlt_serve_session.proofs.{Joining.joined, receipts.join.Goals.then-len, receipts.join.Goals.else-len}
 use Rattle.mlt_serve_session.proofs.receipts.join.Goals as goal
-use Rattle.mlt_serve_session.proofs.receipts.join.Goals.{then-len, else-len}
 
 pub returns : goal.returns
 returns c =

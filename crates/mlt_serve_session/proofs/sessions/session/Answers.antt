@@ -1,8 +1,6 @@
 use Rattle.std.proofs.Common.{ap, sym, ◌∙◌}
 use Rattle.mlt_serve_session.proofs.Names.{talk_state}
-use Rattle.mlt_serve_session.proofs.Closing.{none_pending}
-use Rattle.mlt_serve_session.proofs.Outcomes.{answers_broken, answers_done, answers_long, answers_nothing}
-use Rattle.mlt_serve_session.proofs.Reaching.{same_error}
+use Rattle.mlt_serve_session.proofs.{Closing.none_pending, Outcomes.answers_broken, Outcomes.answers_done, Outcomes.answers_long, Outcomes.answers_nothing, Reaching.same_error}
 use Rattle.mlt_serve_session.proofs.Telling.{nothing_said, speaks_long, sums, breaks_off, hears_all}
 use Rattle.mlt_serve_session.proofs.sessions.session.Goals as goal
 

@@ -1,7 +1,6 @@
 use Rattle.std.proofs.Common.{refl, sym, ap}
 use Rattle.mlt_serve_session.proofs.Names.{Refused, committed_noted}
-use Rattle.mlt_serve_session.proofs.Closing.{unchanged, closed}
-use Rattle.mlt_serve_session.proofs.Stepping.{unanswered, committed}
+use Rattle.mlt_serve_session.proofs.{Closing.unchanged, Closing.closed, Stepping.unanswered, Stepping.committed}
 use Rattle.mlt_serve_session.proofs.turn.commit.Goals as goal
 
 pub returns-in-Ok : goal.returns-in-Ok

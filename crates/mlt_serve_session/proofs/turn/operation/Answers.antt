@@ -1,7 +1,6 @@
 use Rattle.std.proofs.Common.{refl, sym}
 use Rattle.mlt_serve_session.proofs.Names.{Refused, replied_noted}
-use Rattle.mlt_serve_session.proofs.Closing.{replied, unchanged}
-use Rattle.mlt_serve_session.proofs.Stepping.{unanswered}
+use Rattle.mlt_serve_session.proofs.{Closing.replied, Closing.unchanged, Stepping.unanswered}
 use Rattle.mlt_serve_session.proofs.turn.operation.Goals as goal
 
 pub returns-in-Ok-clause-told : goal.returns-in-Ok-clause-told

@@ -1,7 +1,6 @@
 use Rattle.std.proofs.Common.{Some, sym, ap, ◌∙◌, refl}
 use Rattle.mlt_serve_session.proofs.Names.{talk_state}
-use Rattle.mlt_serve_session.specs.Turns.{after_line}
-use Rattle.mlt_serve_session.proofs.Stepping.{asks}
+use Rattle.mlt_serve_session.{specs.Turns.after_line, proofs.Stepping.asks}
 use Rattle.mlt_serve_session.proofs.turn.take_turn.Goals as goal
 
 pub returns-in_ok-answer-in-Some-clause-ok : goal.returns-in_ok-answer-in-Some-clause-ok

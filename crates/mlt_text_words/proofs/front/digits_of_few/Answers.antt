@@ -1,6 +1,5 @@
 use Rattle.std.proofs.Common.{◌≡◌, ◌<◌, ◌≤◌, ◌-◌, get_or, length, arith}
-use Rattle.mlt_text_words.proofs.Digits.{digits_more, value_more}
-use Rattle.mlt_text_words.proofs.Fronts.{short_value}
+use Rattle.mlt_text_words.proofs.{Digits.digits_more, Digits.value_more, Fronts.short_value}
 use Rattle.mlt_text_words.proofs.front.digits_of_few.Goals as goal
 
 pub overflow_mul-value : goal.overflow_mul-value

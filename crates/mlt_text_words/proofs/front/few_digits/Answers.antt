@@ -1,6 +1,5 @@
 use Rattle.std.proofs.Common.{arith}
-use Rattle.mlt_text_words.proofs.Digits.{taken}
-use Rattle.mlt_text_words.proofs.Fronts.{all_of_few, digit_there}
+use Rattle.mlt_text_words.proofs.{Digits.taken, Fronts.all_of_few, Fronts.digit_there}
 use Rattle.mlt_text_words.proofs.front.few_digits.Goals as goal
 
 pub returns-clause-stop : goal.returns-clause-stop

@@ -1,6 +1,5 @@
 use Rattle.std.proofs.Common.{◌≡◌, drop}
-use Rattle.mlt_text_words.specs.Numbers.{number_of}
-use Rattle.mlt_text_words.proofs.Numerals.{goes_on}
+use Rattle.mlt_text_words.{specs.Numbers.number_of, proofs.Numerals.goes_on}
 use Rattle.mlt_text_words.proofs.number.number.Given as goal
 
 abbrev pub invariant-loop-byte : goal.invariant-loop-byte

@@ -1,7 +1,6 @@
 use Rattle.std.proofs.Common.{Some, None}
 use Rattle.mlt_text_words.proofs.Names.{raw_words}
-use Rattle.mlt_text_words.specs.Words.{words_of}
-use Rattle.mlt_text_words.proofs.Splitting.{first_as_what_it_is}
+use Rattle.mlt_text_words.{specs.Words.words_of, proofs.Splitting.first_as_what_it_is}
 use Rattle.mlt_text_words.proofs.words.next_word.Goals as goal
 
 pub returns-in_err-word : goal.returns-in_err-word

@@ -1,8 +1,6 @@
 use Rattle.std.proofs.Common.{◌≡◌, ◌∙◌, ◌++◌, ◌∷◌, ◌+◌, [], ap, subst, sym, take}
 use Rattle.std.proofs.lemmas.List.{take_more}
-use Rattle.mlt_trace.specs.declared.item.TraceItem.{TraceItem}
-use Rattle.mlt_trace.specs.Lines.{AreLinesOf}
-use Rattle.mlt_trace.proofs.Longer.{lines_longer}
+use Rattle.mlt_trace.{specs.declared.item.TraceItem.TraceItem, specs.Lines.AreLinesOf, proofs.Longer.lines_longer}
 use Rattle.mlt_trace.proofs.block.add_lines.Goals as goal
 
 pub loop-count-preserved : goal.loop-count-preserved

@@ -1,7 +1,6 @@
 use Rattle.std.proofs.Common.{ℕ, List, [], refl, take}
 use Rattle.std.proofs.KnownBytes.{Appends-nil}
-use Rattle.mlt_text.proofs.Pieces.{on_err_all}
-use Rattle.mlt_text.specs.Texts.{AppendsFront}
+use Rattle.mlt_text.{proofs.Pieces.on_err_all, specs.Texts.AppendsFront}
 use Rattle.mlt_trace.specs.Lines.{AreLinesOf}
 use Rattle.mlt_trace.proofs.block.write_block.Goals as goal
 

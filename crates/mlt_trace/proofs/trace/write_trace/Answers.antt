@@ -1,6 +1,5 @@
 use Rattle.std.proofs.Common.{◌≡◌, ◌∙◌, ◌++◌, ◌+◌, arith, ap, drop, refl, sym}
-use Rattle.std.proofs.lemmas.List.{drop_all, drop_more}
-use Rattle.std.proofs.lemmas.Result.{on_err_weaker, on_ok_weaker}
+use Rattle.std.proofs.lemmas.{List.drop_all, List.drop_more, Result.on_err_weaker, Result.on_ok_weaker}
 use Rattle.mlt_text.proofs.Pieces.{on_err_all}
 use Rattle.mlt_trace.proofs.Names.{item_line, trace_text}
 use Rattle.mlt_trace.proofs.Pieces.{failed, last_moved, longer, moved, stopped}

@@ -1,8 +1,7 @@
 use Rattle.std.proofs.Common.{arith, refl, subst, sym, ◌∙◌, Contains}
 use Rattle.mlt_trace_audit.proofs.Names.{IsOnce}
-use Rattle.mlt_trace_audit.proofs.Begun.{begun_all, begun_more, is_begun_here, same_begun}
+use Rattle.mlt_trace_audit.proofs.{Begun.begun_all, Begun.begun_more, Begun.is_begun_here, Begun.same_begun, any.are_once.Goals.in-Begin+else-not-is_once, any.are_once.Goals.in_default}
 use Rattle.mlt_trace_audit.proofs.any.are_once.Goals as goal
-use Rattle.mlt_trace_audit.proofs.any.are_once.Goals.{in-Begin+else-not-is_once, in_default}
 
 pub returns-then-not-is_once : goal.returns-then-not-is_once
 returns-then-not-is_once c =

@@ -1,8 +1,7 @@
 use Rattle.std.proofs.Common.{◌≢◌, arith, refl, subst, sym, ◌∙◌, Contains}
-use Rattle.mlt_trace_audit.proofs.Begun.{begun_all, begun_more, is_begun_here, same_begun}
+use Rattle.mlt_trace_audit.proofs.{Begun.begun_all, Begun.begun_more, Begun.is_begun_here, Begun.same_begun, any.is_begun.Goals.in-Begin+else-own-tx, any.is_begun.Goals.in_default}
 use Rattle.mlt_trace_audit.proofs.Names.{begun_txs}
 use Rattle.mlt_trace_audit.proofs.any.is_begun.Goals as goal
-use Rattle.mlt_trace_audit.proofs.any.is_begun.Goals.{in-Begin+else-own-tx, in_default}
 
 pub returns-then-own-tx : goal.returns-then-own-tx
 returns-then-own-tx c =

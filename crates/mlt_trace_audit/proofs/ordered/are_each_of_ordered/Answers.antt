@@ -1,10 +1,9 @@
 use Rattle.std.proofs.Common.{◌≡◌, ◌+◌, length, arith, ap, sum_by, take_all}
 use Rattle.std.proofs.lemmas.Bool.Decides.{nat_tests}
 use Rattle.mlt_trace_audit.proofs.Names.{sum_by-take-le, IsOfHistory}
-use Rattle.mlt_trace_audit.proofs.Loops.{at_end, in_all, one_more}
+use Rattle.mlt_trace_audit.proofs.{Loops.at_end, Loops.in_all, Loops.one_more, ordered.are_each_of_ordered.Goals.then-outcome-ne0+else-left-own+in-Some, ordered.are_each_of_ordered.Goals.else-outcome-ne0}
 use Rattle.mlt_trace_audit.proofs.Shares.{IsStarted, all_told, size, size_more, size_none, size_some, sizes_counted}
 use Rattle.mlt_trace_audit.proofs.ordered.are_each_of_ordered.Goals as goal
-use Rattle.mlt_trace_audit.proofs.ordered.are_each_of_ordered.Goals.{then-outcome-ne0+else-left-own+in-Some, else-outcome-ne0}
 
 pub returns-then-left-own : goal.returns-then-left-own
 returns-then-left-own c =

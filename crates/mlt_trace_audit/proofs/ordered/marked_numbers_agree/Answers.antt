@@ -1,6 +1,5 @@
 use Rattle.std.proofs.Common.{length}
-use Rattle.mlt_trace_audit.proofs.Counts.{numbers_agree, numbers_at_most, numbers_once}
-use Rattle.mlt_trace_audit.proofs.Orderly.{begun_in_order}
+use Rattle.mlt_trace_audit.proofs.{Counts.numbers_agree, Counts.numbers_at_most, Counts.numbers_once, Orderly.begun_in_order}
 use Rattle.mlt_trace_audit.proofs.ordered.marked_numbers_agree.Goals as goal
 
 pub returns-then-are_at_most : goal.returns-then-are_at_most

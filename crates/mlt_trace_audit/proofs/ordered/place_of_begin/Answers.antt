@@ -1,7 +1,6 @@
 use Rattle.std.proofs.Common.{◌-◌, ◌+◌, slice_index_or, arith, inr}
 use Rattle.mlt_trace_audit.proofs.Names.{slice_get_within, Begin}
-use Rattle.mlt_trace_audit.proofs.Apart.{nothing_none}
-use Rattle.mlt_trace_audit.proofs.Orderly.{nothing_to, unbegun_at}
+use Rattle.mlt_trace_audit.proofs.{Apart.nothing_none, Orderly.nothing_to, Orderly.unbegun_at}
 use Rattle.mlt_trace_audit.proofs.ordered.place_of_begin.Goals as goal
 
 pub returns-then-number-places-clause-within : goal.returns-then-number-places-clause-within

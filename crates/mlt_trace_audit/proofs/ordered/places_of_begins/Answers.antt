@@ -1,9 +1,7 @@
 use Rattle.std.proofs.Common.{◌≡◌, ◌+◌, [], ◌∷◌, ◌++◌, Some, length, length-append, slice_get, arith, rules, ap, subst, sym, ◌∙◌}
 use Rattle.mlt_trace_audit.proofs.Names.{Begin, StandsBehind, slice_get-get_or}
-use Rattle.mlt_trace_audit.proofs.Begun.{one_begin, one_other}
-use Rattle.mlt_trace_audit.proofs.Orderly.{begins_more, ordered_all, ordered_more}
+use Rattle.mlt_trace_audit.proofs.{Begun.one_begin, Begun.one_other, Orderly.begins_more, Orderly.ordered_all, Orderly.ordered_more, ordered.places_of_begins.Goals.in-Begin+in-Ok, ordered.places_of_begins.Goals.in_default}
 use Rattle.mlt_trace_audit.proofs.ordered.places_of_begins.Goals as goal
-use Rattle.mlt_trace_audit.proofs.ordered.places_of_begins.Goals.{in-Begin+in-Ok, in_default}
 
 pub loop-item-preserved : goal.loop-item-preserved
 loop-item-preserved c =

@@ -1,7 +1,6 @@
 use Rattle.std.proofs.Common.{◌≡◌, length, take}
 use Rattle.mlt_trace_audit.proofs.Names.{begin_count}
-use Rattle.mlt_trace_audit.specs.Ordered.{AreBeginsAt}
-use Rattle.mlt_trace_audit.proofs.Orderly.{AreOrderedTo}
+use Rattle.mlt_trace_audit.{specs.Ordered.AreBeginsAt, proofs.Orderly.AreOrderedTo}
 use Rattle.mlt_trace_audit.proofs.ordered.places_of_begins.Given as goal
 
 abbrev pub invariant-loop-item : goal.invariant-loop-item

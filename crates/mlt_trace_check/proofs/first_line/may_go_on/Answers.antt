@@ -1,7 +1,6 @@
 use Rattle.std.proofs.Common.{◌≡◌, true, false, refl, sym, ◌∙◌, arith}
-use Rattle.mlt_trace_check.proofs.Settling.{settled_by}
+use Rattle.mlt_trace_check.proofs.{Settling.settled_by, first_line.may_go_on.Goals.then-ended-via-then-ended, first_line.may_go_on.Goals.then-ended-via-else-ended+then-text-gt-MOST_LINE_BYTES}
 use Rattle.mlt_trace_check.proofs.first_line.may_go_on.Goals as goal
-use Rattle.mlt_trace_check.proofs.first_line.may_go_on.Goals.{then-ended-via-then-ended, then-ended-via-else-ended+then-text-gt-MOST_LINE_BYTES}
 
 pub returns-then-ended-clause-settled : goal.returns-then-ended-clause-settled
 returns-then-ended-clause-settled c = λ no going raw after e. elim c.then-ended.branch [

@@ -1,5 +1,4 @@
-use Rattle.mlt_trace_check.proofs.Progressing.{placed_more}
-use Rattle.mlt_trace_check.proofs.Places.{nothing_placed}
+use Rattle.mlt_trace_check.proofs.{Progressing.placed_more, Places.nothing_placed}
 use Rattle.mlt_trace_check.proofs.laws.items_stay_placed.Goals as goal
 
 pub returns : goal.returns

@@ -1,5 +1,4 @@
-use Rattle.mlt_trace_check.proofs.Exactness.{only_accepted, only_faulty}
-use Rattle.mlt_trace_check.proofs.Saying.{answers_known, refused_for, text_of}
+use Rattle.mlt_trace_check.proofs.{Exactness.only_accepted, Exactness.only_faulty, Saying.answers_known, Saying.refused_for, Saying.text_of}
 use Rattle.mlt_trace_check.proofs.long_check.check_long_trace.Goals as goal
 
 pub returns-clause-text : goal.returns-clause-text

@@ -2,9 +2,8 @@ use Rattle.std.proofs.Common.{◌≡◌, ◌+◌, ◌≤◌, [], ◌++◌, ℕ, 
 use Rattle.std.proofs.lemmas.List.{nil_from_length}
 use Rattle.mlt_trace_check.proofs.Names.{err_from_is_err_and, on_err_all, GoesOver, Refuses, serial_lines}
 use Rattle.mlt_text.proofs.Pieces.{nothing_read}
-use Rattle.mlt_trace_check.specs.LongTexts.{IsFirstFaultRead}
+use Rattle.mlt_trace_check.{specs.LongTexts.IsFirstFaultRead, proofs.Refusals.refused_want}
 use Rattle.mlt_trace_check.proofs.Pieces.{goes_further, left_fits, reads_more, rest_by_length, starts, stops_here, stops_somewhere, stops_telling, told_of}
-use Rattle.mlt_trace_check.proofs.Refusals.{refused_want}
 use Rattle.mlt_trace_check.proofs.long_check.go_over.Goals as goal
 
 pub pieces-init : goal.pieces-init

@@ -1,7 +1,6 @@
 use Rattle.std.proofs.Common.{refl, ◌∙◌}
 use Rattle.mlt_trace_check.proofs.Names.{err_from_is_err_and}
-use Rattle.mlt_trace_check.proofs.Progressing.{went_nowhere}
-use Rattle.mlt_trace_check.proofs.LongStepping.{goes_to_end, refuses_first}
+use Rattle.mlt_trace_check.proofs.{Progressing.went_nowhere, LongStepping.goes_to_end, LongStepping.refuses_first}
 use Rattle.mlt_trace_check.proofs.trace_check.check_text.Goals as goal
 
 pub returns-in_err-take_lines : goal.returns-in_err-take_lines

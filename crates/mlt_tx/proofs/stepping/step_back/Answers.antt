@@ -4,8 +4,7 @@ use Rattle.mlt_tx.proofs.Names.{ObjOp, ObjReply, inverse_of, LocalState, local, 
 use Rattle.mlt_hash_access.proofs.Rebased.{same_some}
 use Rattle.mlt_tx_operation.specs.Operating.{MayOperate}
 use Rattle.mlt_object_base.specs.Undo.{IsLast}
-use Rattle.mlt_tx.specs.Steps.{TakesBack}
-use Rattle.mlt_tx.proofs.Backing.{end_tells, one_last}
+use Rattle.mlt_tx.{specs.Steps.TakesBack, proofs.Backing.end_tells, proofs.Backing.one_last}
 use Rattle.mlt_tx.proofs.stepping.step_back.Goals as goal
 
 pub step-requires-clause-untold : goal.step-requires-clause-untold

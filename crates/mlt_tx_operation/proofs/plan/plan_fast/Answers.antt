@@ -1,7 +1,6 @@
 use Rattle.std.proofs.Common.{◌≡◌, ℕ, None, Some, is_some, refl, sym, ap, subst, ◌∙◌, IsSome, Option}
 use Rattle.mlt_tx_operation.proofs.Names.{Mode, is_live_of, Live, BucketFields, ObjOp, RecChange, Do, CanChange, decision, size_key_of, target_of, page_at, IsPath, value_in, LocalState, local, WalkContext, context_in, Change, SetsFirst, WriteFields, started_for, Performs, leaves, PassesFast, store_after}
-use Rattle.mlt_tx_operation.specs.Fast.{CanWrite}
-use Rattle.mlt_tx_operation.proofs.Passing.{no_key, passes_reading, passes_writing}
+use Rattle.mlt_tx_operation.{specs.Fast.CanWrite, proofs.Passing.no_key, proofs.Passing.passes_reading, proofs.Passing.passes_writing}
 use Rattle.mlt_tx_operation.proofs.plan.plan_fast.Goals as goal
 
 pub returns-in_default-decided-clause-passes : goal.returns-in_default-decided-clause-passes

@@ -1,9 +1,7 @@
 use Rattle.std.proofs.Common.{◌≡◌, ℕ, Option, Some, refl, sym, ap, subst, inl}
 use Rattle.mlt_tx_operation.proofs.Names.{ObjReply, RecChange, LocalState, local, view_of, WalkContext, context_in, rolls_back, MayDecide, TellsAtBucket, WalkingFields, walking}
 use Rattle.mlt_hash_access.proofs.OwnSteps.{step_keeps_tx}
-use Rattle.mlt_tx_operation.proofs.Going.{goes_on, puts}
-use Rattle.mlt_tx_operation.proofs.Ready.{under_way}
-use Rattle.mlt_tx_operation.proofs.Telling.{found_tells, may_decide, refused, waits}
+use Rattle.mlt_tx_operation.proofs.{Going.goes_on, Going.puts, Ready.under_way, Telling.found_tells, Telling.may_decide, Telling.refused, Telling.waits}
 use Rattle.mlt_tx_operation.proofs.walking.step_walk.Goals as goal
 
 pub advance-requires : goal.advance-requires

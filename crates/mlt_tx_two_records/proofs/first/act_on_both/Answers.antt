@@ -2,8 +2,7 @@ use Rattle.std.proofs.Common.{◌≡◌, ◌⊎◌, None, Some, refl, sym, ap, s
 use Rattle.mlt_tx_two_records.proofs.Names.{LocalState, local, view_of, HasChanged, IsFinding, WalkContext, context_in}
 use Rattle.mlt_hash_pair.specs.Pairs.{FileRoot}
 use Rattle.mlt_tx_two_records.proofs.FirstBuckets.{asked_fits_both, both_or_none, full_stays, told_changed, told_full, told_nothing, told_one_left}
-use Rattle.mlt_tx_two_records.proofs.RollingBack.{rolls_back}
-use Rattle.mlt_tx_two_records.proofs.first.act_on_both.Goals.{in_default-via-in-Some+in_default, in_default-via-in_default}
+use Rattle.mlt_tx_two_records.proofs.{RollingBack.rolls_back, first.act_on_both.Goals.in_default-via-in-Some+in_default, first.act_on_both.Goals.in_default-via-in_default}
 use Rattle.mlt_tx_two_records.proofs.first.act_on_both.Goals as goal
 
 pub returns-in_default : goal.returns-in_default

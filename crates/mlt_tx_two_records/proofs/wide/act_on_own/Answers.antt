@@ -1,8 +1,6 @@
 use Rattle.std.proofs.Common.{◌≡◌, ℕ, Option, Some, refl, sym, ap, subst, ◌∙◌, inr}
 use Rattle.mlt_tx_two_records.proofs.Names.{RecChange, LocalState, local, view_of, step_keeps_tx, WalkContext, context_in, HasJustPut, IsGoingToSize}
-use Rattle.mlt_tx_two_records.proofs.RollingBack.{rolls_back}
-use Rattle.mlt_tx_two_records.proofs.WideDeciding.{is_possible, own_change}
-use Rattle.mlt_tx_two_records.proofs.WideOwn.{is_to_split, just_put, no_room, told_present}
+use Rattle.mlt_tx_two_records.proofs.{RollingBack.rolls_back, WideDeciding.is_possible, WideDeciding.own_change, WideOwn.is_to_split, WideOwn.just_put, WideOwn.no_room, WideOwn.told_present}
 use Rattle.mlt_tx_two_records.proofs.wide.act_on_own.Goals as goal
 
 pub decide-reply-requires : goal.decide-reply-requires

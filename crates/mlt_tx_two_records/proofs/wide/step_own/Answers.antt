@@ -1,8 +1,7 @@
 use Rattle.std.proofs.Common.{◌≡◌, ℕ, refl, sym, subst}
 use Rattle.mlt_tx_two_records.proofs.Names.{LocalState, local, view_of, step_keeps_tx, WalkContext, context_in, HasJustPut, MayActOnOwn, TellsAtOwn, IsGoingToSize}
-use Rattle.mlt_tx_two_records.proofs.RollingBack.{rolls_back}
+use Rattle.mlt_tx_two_records.proofs.{RollingBack.rolls_back, WideTelling.never_needs, WideTelling.refused, WideTelling.waits}
 use Rattle.mlt_tx_two_records.proofs.WideOwnSteps.{goes_over_behind, goes_to_own, has_put_behind, is_refused, may_act, may_walk, tells_there}
-use Rattle.mlt_tx_two_records.proofs.WideTelling.{never_needs, refused, waits}
 use Rattle.mlt_tx_two_records.proofs.wide.step_own.Goals as goal
 
 pub advance-requires : goal.advance-requires

@@ -23,8 +23,7 @@ use borrow.Fn.World.{World}
 use borrow.Fn.Written as written
 use Rattle.mlt_types.specs.declared.pseudo.Pseudo as pseudo
 use Rattle.mlt_tx_two_records.proofs.Names.{LocalState, local, WalkContext, Before, context_in, MayStepToSize}
-use Rattle.mlt_tx_two_records.proofs.WideSizeSteps.{may_step}
-use Rattle.mlt_tx_two_records.proofs.wide.step_size.Statement.{statement}
+use Rattle.mlt_tx_two_records.proofs.{WideSizeSteps.may_step, wide.step_size.Statement.statement}
 use Rattle.mlt_tx_two_records.proofs.wide.step_size.Lts as lts
 use Rattle.mlt_tx_two_records.proofs.wide.step_size.Kinds as kinds
 use Rattle.mlt_tx_two_records.proofs.wide.step_size.Reads as reads

@@ -1,9 +1,7 @@
 use Rattle.std.proofs.Common.{◌≡◌, ℕ, None, Option, refl, sym, ap, subst}
 use Rattle.mlt_tx_two_records.proofs.Names.{ObjReply, RecChange, LocalState, local, step_keeps_tx, WalkContext, context_after, context_in, MayActOnSize, TellsAtSize}
-use Rattle.mlt_tx_two_records.proofs.RollingBack.{rolls_back}
-use Rattle.mlt_tx_two_records.proofs.WideDeciding.{is_possible}
+use Rattle.mlt_tx_two_records.proofs.{RollingBack.rolls_back, WideDeciding.is_possible, WideTelling.never_needs, WideTelling.refused}
 use Rattle.mlt_tx_two_records.proofs.WideSizeSteps.{goes_to_size, is_refused, may_act, tells_there, told_behind, waits_there}
-use Rattle.mlt_tx_two_records.proofs.WideTelling.{never_needs, refused}
 use Rattle.mlt_tx_two_records.proofs.wide.walk_to_size.Goals as goal
 
 pub advance-requires : goal.advance-requires

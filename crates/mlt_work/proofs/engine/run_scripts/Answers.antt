@@ -1,9 +1,7 @@
 use Rattle.std.proofs.Common.{◌∙◌, Err, ap}
-use Rattle.std.proofs.KnownBytes.{Keeps-refl}
-use Rattle.std.proofs.lemmas.Result.{err_from_is_err_and}
+use Rattle.std.proofs.{KnownBytes.Keeps-refl, lemmas.Result.err_from_is_err_and}
 use Rattle.mlt_text.proofs.Failing.{finished, unfinished, unread, unwritten}
-use Rattle.mlt_script_serial.specs.declared.report.ReportForm.TheVariants.{Run}
-use Rattle.mlt_script_serial.specs.Texts.{report_text}
+use Rattle.mlt_script_serial.specs.{declared.report.ReportForm.TheVariants.Run, Texts.report_text}
 use Rattle.mlt_work.proofs.Texts.{run_text}
 use Rattle.mlt_work.proofs.engine.run_scripts.Goals as goal
 

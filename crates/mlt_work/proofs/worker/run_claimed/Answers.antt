@@ -1,13 +1,7 @@
 use Rattle.std.proofs.Common.{◌≡◌, ℕ, ◌<◌, ◌∷◌, [], List, length, map, get_or, sym, ap, ◌∙◌, subst, arith, Vec, Global}
-use Rattle.std.proofs.lemmas.List.{map-append, get_or-map, length-map}
-use Rattle.std.proofs.lemmas.List.Elements.{All-push}
-use Rattle.mlt_work_clients.specs.Claims.{view}
-use Rattle.mlt_work_clients.specs.Seats.{view_of}
-use Rattle.mlt_script.specs.declared.script.Script.{Script}
-use Rattle.mlt_script.specs.Scripts.{ScriptForm}
-use Rattle.mlt_work_clients.specs.declared.forms.ClientRun.{ClientRun}
-use Rattle.mlt_work_clients.specs.Places.{AreClientOutcomes, IsClientRun, place_of, scripts_of_clients}
-use Rattle.mlt_work_clients.proofs.Placing.{draws_client}
+use Rattle.std.proofs.lemmas.List.{map-append, get_or-map, length-map, Elements.All-push}
+use Rattle.mlt_work_clients.{specs.Claims.view, specs.Seats.view_of, specs.declared.forms.ClientRun.ClientRun, specs.Places.AreClientOutcomes, specs.Places.IsClientRun, specs.Places.place_of, specs.Places.scripts_of_clients, proofs.Placing.draws_client}
+use Rattle.mlt_script.specs.{declared.script.Script.Script, Scripts.ScriptForm}
 use Rattle.mlt_work_desk.specs.Holds.{desk_view}
 use Rattle.mlt_work.proofs.Refusals.{runs_end}
 use Rattle.mlt_work.proofs.worker.run_claimed.Goals as goal

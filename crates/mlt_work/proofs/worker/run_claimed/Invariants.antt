@@ -1,7 +1,5 @@
 use Rattle.std.proofs.Common.{◌≡◌, length, map, All}
-use Rattle.mlt_work_clients.specs.Claims.{view}
-use Rattle.mlt_work_clients.specs.Seats.{IsOf, view_of}
-use Rattle.mlt_work_clients.specs.Places.{IsClientRun, place_of, scripts_of_clients}
+use Rattle.mlt_work_clients.specs.{Claims.view, Seats.IsOf, Seats.view_of, Places.IsClientRun, Places.place_of, Places.scripts_of_clients}
 use Rattle.mlt_work.proofs.worker.run_claimed.Given as goal
 
 abbrev pub invariant-claims : goal.invariant-claims

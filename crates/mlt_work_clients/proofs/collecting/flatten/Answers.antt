@@ -1,10 +1,7 @@
 use Rattle.std.proofs.Common.{◌≡◌, ◌+◌, ◌∷◌, ◌++◌, [], List, ℕ, map, take, get_or, sym, ◌∙◌, subst, arith, Vec, Global, Some, None, Option, IfSome, IsSome, length-set, get_or-set_other}
 use Rattle.std.proofs.lemmas.List.{length-map, take_more}
-use Rattle.mlt_script.specs.declared.script.Script.{Script}
-use Rattle.mlt_script.specs.Scripts.{ScriptForm}
-use Rattle.mlt_work_clients.specs.declared.forms.ClientRun.{ClientRun}
-use Rattle.mlt_work_clients.specs.Places.{AreClientOutcomes, IsClientRun}
-use Rattle.mlt_work_clients.proofs.Placing.{all_push, get_any}
+use Rattle.mlt_script.specs.{declared.script.Script.Script, Scripts.ScriptForm}
+use Rattle.mlt_work_clients.{specs.declared.forms.ClientRun.ClientRun, specs.Places.AreClientOutcomes, specs.Places.IsClientRun, proofs.Placing.all_push, proofs.Placing.get_any}
 use Rattle.mlt_work_clients.proofs.collecting.flatten.Goals as goal
 
 pub loop-i-preserved : goal.loop-i-preserved

@@ -1,14 +1,7 @@
 use Rattle.std.proofs.Common.{◌≡◌, ◌<◌, ◌+◌, ◌++◌, List, ℕ, length, map, sym, ap, ◌∙◌, subst, arith, Vec, Global, inr, Some, false}
-use Rattle.std.proofs.lemmas.List.{length-map}
-use Rattle.std.proofs.lemmas.List.Elements.{All-pop}
-use Rattle.mlt_work_clients.specs.declared.seats.SeatView.{SeatView}
-use Rattle.mlt_work_clients.specs.Claims.{times}
-use Rattle.mlt_work_clients.specs.Seats.{view_of}
-use Rattle.mlt_script.specs.declared.script.Script.{Script}
-use Rattle.mlt_script.specs.Scripts.{ScriptForm}
-use Rattle.mlt_work_clients.specs.Workers.{HasWorked}
-use Rattle.mlt_work_clients.specs.Places.{HaveRuns, place_of}
-use Rattle.mlt_work_clients.proofs.Placing.{filled_join, past_join}
+use Rattle.std.proofs.lemmas.List.{length-map, Elements.All-pop}
+use Rattle.mlt_work_clients.{specs.declared.seats.SeatView.SeatView, specs.Claims.times, specs.Seats.view_of, specs.Workers.HasWorked, specs.Places.HaveRuns, specs.Places.place_of, proofs.Placing.filled_join, proofs.Placing.past_join}
+use Rattle.mlt_script.specs.{declared.script.Script.Script, Scripts.ScriptForm}
 use Rattle.mlt_work_clients.proofs.collecting.gather.Goals as goal
 
 pub loop-worked-preserved : goal.loop-worked-preserved

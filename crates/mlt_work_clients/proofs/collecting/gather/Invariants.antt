@@ -1,7 +1,5 @@
 use Rattle.std.proofs.Common.{◌≡◌, ◌⊎◌, ◌<◌, ◌+◌, ◌-◌, ◌^◌, length, vec_len, min, All, false}
-use Rattle.mlt_work_clients.specs.Seats.{IsOf, view_of}
-use Rattle.mlt_work_clients.specs.Workers.{HasDrawnPast, HasWorked}
-use Rattle.mlt_work_clients.specs.Places.{AreInPlace, HaveRuns, scripts_of_clients}
+use Rattle.mlt_work_clients.specs.{Seats.IsOf, Seats.view_of, Workers.HasDrawnPast, Workers.HasWorked, Places.AreInPlace, Places.HaveRuns, Places.scripts_of_clients}
 use Rattle.mlt_work_clients.proofs.collecting.gather.Given as goal
 
 abbrev pub invariant-loop-worked : goal.invariant-loop-worked

@@ -1,6 +1,5 @@
 use Rattle.std.proofs.Common.{map, vec_len}
-use Rattle.mlt_work_clients.specs.Places.{place_of}
-use Rattle.mlt_work_clients.proofs.Placing.{ArePut}
+use Rattle.mlt_work_clients.{specs.Places.place_of, proofs.Placing.ArePut}
 use Rattle.mlt_work_clients.proofs.collecting.place_all.Given as goal
 
 abbrev pub invariant-loop-run : goal.invariant-loop-run

@@ -1,6 +1,5 @@
 use Rattle.std.proofs.Common.{◌≡◌, ◌+◌, vec_len, All}
-use Rattle.mlt_work_clients.specs.Seats.{IsOf, view_of}
-use Rattle.mlt_work_clients.specs.Workers.{IsFresh, view_after_splits}
+use Rattle.mlt_work_clients.specs.{Seats.IsOf, Seats.view_of, Workers.IsFresh, Workers.view_after_splits}
 use Rattle.mlt_work_clients.proofs.forms.jobs_for.Given as goal
 
 abbrev pub invariant-loop-i : goal.invariant-loop-i

@@ -1,6 +1,5 @@
 use Rattle.std.proofs.Common.{sym, subst, MatchBool}
-use Rattle.mlt_work_waits.specs.Queues.{MayClash, NeverClash}
-use Rattle.mlt_work_waits.proofs.Exact.{table_is_exact}
+use Rattle.mlt_work_waits.{specs.Queues.MayClash, specs.Queues.NeverClash, proofs.Exact.table_is_exact}
 use Rattle.mlt_work_waits.proofs.clashing.may_clash.Goals as goal
 
 pub returns-clause-exact : goal.returns-clause-exact

@@ -4,8 +4,7 @@ use Rattle.mlt_hash.proofs.Names.{is_live_of, Live, BucketFields, LocalState, lo
 use Rattle.mlt_hash_access.proofs.Leaving.{leaves_it}
 use Rattle.mlt_hash.proofs.Additions.{absent_from_bucket, absent_may_write, absent_plans, is_full, put_takes, put_tells, revival_takes, revival_tells, unmade_takes}
 use Rattle.mlt_hash.proofs.InPlace.{ReadsBucket, at_bucket_without, holds_bucket, plan_is_written, reads_bucket}
-use Rattle.mlt_hash.proofs.walk.Walk.insert.Given.{Over}
-use Rattle.mlt_hash.proofs.walk.Walk.insert.Goals.{After-tx, In-Some-insert}
+use Rattle.mlt_hash.proofs.walk.Walk.insert.{Given.Over, Goals.After-tx, Goals.In-Some-insert}
 use Rattle.mlt_hash.proofs.walk.Walk.insert.Goals as goal
 
 pub held_bucket-number-requires-clause-at : goal.held_bucket-number-requires-clause-at

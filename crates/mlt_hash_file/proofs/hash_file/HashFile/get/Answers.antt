@@ -1,9 +1,7 @@
 use Rattle.mlt_hash_file.proofs.Names.{nothing_before, PageStore, page_at, live_records, context_of, IsHashFile}
-use Rattle.mlt_hash_file.proofs.AloneWalks.{more_from_start, ready_at_start}
+use Rattle.mlt_hash_file.proofs.{AloneWalks.more_from_start, AloneWalks.ready_at_start, AloneEnds.idle_starts, HashFiles.file_before, HashFiles.found_is_record, HashFiles.store_stays}
 use Rattle.std.proofs.Common.{◌≡◌, ◌∙◌, sym, subst}
 use Rattle.std.specs.FinMap as map
-use Rattle.mlt_hash_file.proofs.AloneEnds.{idle_starts}
-use Rattle.mlt_hash_file.proofs.HashFiles.{file_before, found_is_record, store_stays}
 use Rattle.mlt_hash_file.proofs.hash_file.HashFile.get.Goals as goal
 
 pub find-found-requires : goal.find-found-requires

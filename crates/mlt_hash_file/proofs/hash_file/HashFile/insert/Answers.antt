@@ -1,9 +1,7 @@
 use Rattle.std.proofs.Common.{◌≡◌, Some, ◌∙◌, sym, ap, subst}
 use Rattle.mlt_hash_file.proofs.Names.{transport, PageStore, page_at, live_records, IsHashFile}
 use Rattle.std.specs.FinMap as map
-use Rattle.mlt_hash_file.specs.HashFiles.{Refuses}
-use Rattle.mlt_hash_file.proofs.Alone.{keeps_both, keeps_same}
-use Rattle.mlt_hash_file.proofs.AloneEnds.{idle_starts}
+use Rattle.mlt_hash_file.{specs.HashFiles.Refuses, proofs.Alone.keeps_both, proofs.Alone.keeps_same, proofs.AloneEnds.idle_starts}
 use Rattle.mlt_hash_file.proofs.HashFiles.{absent_before, changes_records, file_before, idle_store_stays, refuses}
 use Rattle.mlt_hash_file.proofs.hash_file.HashFile.insert.Goals as goal
 

@@ -1,8 +1,7 @@
 use Rattle.std.proofs.Common.{rules, ◌≤◌, arith}
 use Rattle.mlt_hash_file.proofs.Names.{local}
 use Rattle.mlt_hash_form.proofs.MapChanges.{opening_map}
-use Rattle.mlt_hash_file.proofs.AloneEnds.{alone_at_start, idle_at_start}
-use Rattle.mlt_hash_file.proofs.OpenedFiles.{opened_depth, opened_file}
+use Rattle.mlt_hash_file.proofs.{AloneEnds.alone_at_start, AloneEnds.idle_at_start, OpenedFiles.opened_depth, OpenedFiles.opened_file}
 use Rattle.mlt_hash_file.proofs.hash_file.HashFile.new.Goals as goal
 
 pub invariant_of-result : goal.invariant_of-result

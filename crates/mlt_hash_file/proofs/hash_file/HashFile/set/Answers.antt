@@ -1,11 +1,7 @@
 use Rattle.mlt_hash_file.proofs.Names.{nothing_before, PageStore, live_records}
-use Rattle.mlt_hash_file.proofs.AloneWalks.{more_from_start, ready_at_start}
-use Rattle.mlt_hash_file.proofs.AlonePasses.{ready_there}
+use Rattle.mlt_hash_file.{proofs.AloneWalks.more_from_start, proofs.AloneWalks.ready_at_start, proofs.AlonePasses.ready_there, specs.HashFiles.records_after, proofs.AloneEnds.idle_starts, proofs.HashFiles.at_record, proofs.HashFiles.file_before, proofs.HashFiles.changes_records}
 use Rattle.std.proofs.Common.{◌≡◌, ◌∙◌, IsSome, sym, ap, subst}
 use Rattle.std.specs.FinMap as map
-use Rattle.mlt_hash_file.specs.HashFiles.{records_after}
-use Rattle.mlt_hash_file.proofs.AloneEnds.{idle_starts}
-use Rattle.mlt_hash_file.proofs.HashFiles.{at_record, file_before, changes_records}
 use Rattle.mlt_hash_file.proofs.hash_file.HashFile.set.Goals as goal
 
 pub find-requires : goal.find-requires

@@ -1,8 +1,6 @@
 use Rattle.mlt_hash_file.proofs.Names.{context_of, nothing_before}
 use Rattle.std.proofs.Common.{◌∙◌}
-use Rattle.mlt_hash_file.proofs.Alone.{keeps_both}
-use Rattle.mlt_hash_file.proofs.AloneWalks.{more_from_start, ready_at_start}
-use Rattle.mlt_hash_file.proofs.AlonePasses.{absent_here, context_before, ready_there, retell}
+use Rattle.mlt_hash_file.proofs.{Alone.keeps_both, AloneWalks.more_from_start, AloneWalks.ready_at_start, AlonePasses.absent_here, AlonePasses.context_before, AlonePasses.ready_there, AlonePasses.retell}
 use Rattle.mlt_hash_file.proofs.runner.Runner.add.Goals as goal
 
 pub find-requires : goal.find-requires

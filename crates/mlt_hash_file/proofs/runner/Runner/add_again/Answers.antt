@@ -1,8 +1,6 @@
 use Rattle.std.proofs.Common.{subst}
 use Rattle.mlt_hash_file.proofs.Names.{context_of, TellsOfPass, WalkContext, nothing_before}
-use Rattle.mlt_hash_file.proofs.AloneEnds.{idle_starts}
-use Rattle.mlt_hash_file.proofs.AlonePasses.{retell}
-use Rattle.mlt_hash_file.proofs.AloneWalks.{file_kept, same_context}
+use Rattle.mlt_hash_file.proofs.{AloneEnds.idle_starts, AlonePasses.retell, AloneWalks.file_kept, AloneWalks.same_context}
 use Rattle.mlt_hash_file.proofs.runner.Runner.add_again.Goals as goal
 
 pub add-requires-clause-nothing : goal.add-requires-clause-nothing

@@ -1,7 +1,5 @@
 use Rattle.mlt_hash_file.proofs.Names.{context_of, view_of, nothing_written, nothing_before}
-use Rattle.mlt_hash_file.proofs.Alone.{keeps_both}
-use Rattle.mlt_hash_file.proofs.AloneInsertions.{may_add_now, pass_is_later, splits_are_later, splits_before}
-use Rattle.mlt_hash_file.proofs.AloneWalks.{file_kept}
+use Rattle.mlt_hash_file.proofs.{Alone.keeps_both, AloneInsertions.may_add_now, AloneInsertions.pass_is_later, AloneInsertions.splits_are_later, AloneInsertions.splits_before, AloneWalks.file_kept}
 use Rattle.mlt_hash_file.proofs.runner.Runner.add_with_splits.Goals as goal
 
 pub split-requires : goal.split-requires

@@ -1,8 +1,6 @@
 use Rattle.mlt_hash_file.proofs.Names.{local, IsAlone, MayChange, page_of, context_after, context_by}
 use Rattle.std.proofs.Common.{refl, subst}
-use Rattle.mlt_hash_file.proofs.Alone.{alone_after_write, write_keeps_before, written_after}
-use Rattle.mlt_hash_file.proofs.AloneChanges.{may_walk_alone, writes_at_most}
-use Rattle.mlt_hash_file.proofs.AlonePasses.{addition_tells}
+use Rattle.mlt_hash_file.proofs.{Alone.alone_after_write, Alone.write_keeps_before, Alone.written_after, AloneChanges.may_walk_alone, AloneChanges.writes_at_most, AlonePasses.addition_tells}
 use Rattle.mlt_hash_file.proofs.runner.Runner.put.Goals as goal
 
 pub insert-requires : goal.insert-requires

@@ -1,9 +1,6 @@
 use Rattle.mlt_hash_file.proofs.Names.{local, MayChange, page_of, context_after, context_by}
 use Rattle.std.proofs.Common.{refl}
-use Rattle.mlt_hash_file.proofs.Alone.{alone_after_write, write_keeps_before}
-use Rattle.mlt_hash_file.proofs.AloneChanges.{change_alone, may_walk_alone, writes_at_most}
-use Rattle.mlt_hash_file.proofs.runner.Runner.set.Given.{Over}
-use Rattle.mlt_hash_file.proofs.runner.Runner.set.Goals.{After-set-arg-3-1}
+use Rattle.mlt_hash_file.proofs.{Alone.alone_after_write, Alone.write_keeps_before, AloneChanges.change_alone, AloneChanges.may_walk_alone, AloneChanges.writes_at_most, runner.Runner.set.Given.Over, runner.Runner.set.Goals.After-set-arg-3-1}
 use Rattle.mlt_hash_file.proofs.runner.Runner.set.Goals as goal
 
 may : (g : Over) (c : After-set-arg-3-1 g) → MayChange (context_after g.since (context_by g.P.Pseudo.bits_of c.args.root.now c.self.inside.active c.self.inside.subtx.tx)) (local c.self.inside.subtx c.self.inside.pages) c.args.walk.now

@@ -1,6 +1,5 @@
-use Rattle.mlt_hash_file.proofs.Alone.{keeps_both}
+use Rattle.mlt_hash_file.proofs.{Alone.keeps_both, AloneWalks.file_kept}
 use Rattle.mlt_hash_file.proofs.AloneSplits.{has_next_step, less_effort, splits_end, splits_on, splits_start, stands_to_split}
-use Rattle.mlt_hash_file.proofs.AloneWalks.{file_kept}
 use Rattle.mlt_hash_file.proofs.runner.Runner.split.Goals as goal
 
 pub loop-answer-init : goal.loop-answer-init

@@ -1,8 +1,6 @@
 use Rattle.mlt_hash_file.proofs.Names.{local, IsAlone}
 use Rattle.std.proofs.Common.{refl, subst}
-use Rattle.mlt_hash_file.proofs.Alone.{alone_after_step, step_keeps_before, written_after}
-use Rattle.mlt_hash_file.proofs.AloneSteps.{goes}
-use Rattle.mlt_hash_file.proofs.AloneChanges.{may_walk_alone}
+use Rattle.mlt_hash_file.proofs.{Alone.alone_after_step, Alone.step_keeps_before, Alone.written_after, AloneSteps.goes, AloneChanges.may_walk_alone}
 use Rattle.mlt_hash_file.proofs.runner.Runner.step.Goals as goal
 
 pub advance-requires : goal.advance-requires

@@ -1,8 +1,6 @@
 use Rattle.std.proofs.Common.{◌≡◌, ℕ, sym, ap, subst, ◌∙◌}
 use Rattle.mlt_hash_pair.proofs.Names.{LocalState, local, IsUnderWay, MayFind, PairFields, mode_next, page_next, next_mode, next_page, descent_after, TellsOfStep}
-use Rattle.mlt_hash_pair.proofs.Finding.{pair_next_there, reads_small, tells}
-use Rattle.mlt_hash_pair.proofs.pair.Pair.advance.Given.{Over}
-use Rattle.mlt_hash_pair.proofs.pair.Pair.advance.Goals.{After-next_mode}
+use Rattle.mlt_hash_pair.proofs.{Finding.pair_next_there, Finding.reads_small, Finding.tells, pair.Pair.advance.Given.Over, pair.Pair.advance.Goals.After-next_mode}
 use Rattle.mlt_hash_pair.proofs.pair.Pair.advance.Goals as goal
 
 -- the pair, its page and its mode

@@ -1,8 +1,6 @@
 use Rattle.std.proofs.Common.{sym, ap, ◌∙◌}
 use Rattle.mlt_hash_split.proofs.Names.{SplitFields, local}
-use Rattle.mlt_hash_split.proofs.Doubling.{place_of_double}
-use Rattle.mlt_hash_split.proofs.HeldPages.{clean_now}
-use Rattle.mlt_hash_split.proofs.Steps.{makes_second_half}
+use Rattle.mlt_hash_split.proofs.{Doubling.place_of_double, HeldPages.clean_now, Steps.makes_second_half}
 use Rattle.mlt_hash_split.proofs.split.Split.advance.Goals as goal
 
 pub double_page-requires : goal.double_page-requires

@@ -1,7 +1,6 @@
 use Rattle.std.proofs.Common.{◌≡◌, ◌≤◌, ◌+◌, map, Some, sym, ◌∙◌, ap, arith}
 use Rattle.mlt_hash_split.proofs.Names.{half, BucketFields, HeadFields, Page, local, view_of, view_over, rebased_makes_page, reads_over_writes, half_of, SplitTarget, held_page, seed_of}
-use Rattle.mlt_hash_split.specs.Rests.{target_by}
-use Rattle.mlt_hash_split.proofs.Beginning.{begun, deeper_fits, few_at_rest, halves_made}
+use Rattle.mlt_hash_split.{specs.Rests.target_by, proofs.Beginning.begun, proofs.Beginning.deeper_fits, proofs.Beginning.few_at_rest, proofs.Beginning.halves_made}
 use Rattle.mlt_hash_split.proofs.HeldPages.{clean_now, header_as_read, reads_as, reads_held, same_bucket, same_header}
 use Rattle.mlt_hash_split.proofs.split.Split.begin.Goals as goal
 

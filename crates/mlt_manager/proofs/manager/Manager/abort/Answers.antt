@@ -1,6 +1,5 @@
 use Rattle.mlt_manager.proofs.Names.{fields_of}
-use Rattle.mlt_manager.proofs.Keeping.{is_counted}
-use Rattle.mlt_manager.proofs.Kept.{abort_kept}
+use Rattle.mlt_manager.proofs.{Keeping.is_counted, Kept.abort_kept}
 use Rattle.mlt_manager.proofs.manager.Manager.abort.Goals as goal
 
 pub abort-requires : goal.abort-requires

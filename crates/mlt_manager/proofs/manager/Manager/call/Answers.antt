@@ -1,6 +1,5 @@
 use Rattle.mlt_manager.proofs.Names.{fields_of}
-use Rattle.mlt_manager.proofs.Keeping.{is_counted}
-use Rattle.mlt_manager.proofs.Kept.{call_kept}
+use Rattle.mlt_manager.proofs.{Keeping.is_counted, Kept.call_kept}
 use Rattle.mlt_manager.proofs.manager.Manager.call.Goals as goal
 
 pub invariant_of-self : goal.invariant_of-self

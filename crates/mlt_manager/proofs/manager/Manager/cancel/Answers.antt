@@ -1,8 +1,6 @@
 use Rattle.std.proofs.Common.{OnOk, ap, subst, ◌∙◌}
 use Rattle.mlt_manager.proofs.Names.{KeepsWhatCounts, counted, fields_of}
-use Rattle.mlt_manager.proofs.WholeBases.{cancel_leads}
-use Rattle.mlt_manager.proofs.Keeping.{is_counted}
-use Rattle.mlt_manager.proofs.Kept.{cancel_kept}
+use Rattle.mlt_manager.proofs.{WholeBases.cancel_leads, Keeping.is_counted, Kept.cancel_kept}
 use Rattle.mlt_manager.proofs.manager.Manager.cancel.Goals as goal
 
 pub cancel-requires : goal.cancel-requires

@@ -1,6 +1,5 @@
 use Rattle.mlt_manager.proofs.Names.{fields_of}
-use Rattle.mlt_manager.proofs.Keeping.{is_counted}
-use Rattle.mlt_manager.proofs.Kept.{commit_kept}
+use Rattle.mlt_manager.proofs.{Keeping.is_counted, Kept.commit_kept}
 use Rattle.mlt_manager.proofs.manager.Manager.commit.Goals as goal
 
 pub commit-requires : goal.commit-requires

@@ -1,8 +1,6 @@
 use Rattle.std.proofs.Common.{refl, subst, sym, List, [], ◌∙◌}
 use Rattle.mlt_manager.proofs.Names.{Told, IsRun}
-use Rattle.mlt_manager.proofs.Courses.{played_course}
-use Rattle.mlt_manager.proofs.Playing.{all_played, played_on}
-use Rattle.mlt_manager.proofs.Quiet.{none_waits}
+use Rattle.mlt_manager.proofs.{Courses.played_course, Playing.all_played, Playing.played_on, Quiet.none_waits}
 use Rattle.mlt_manager.proofs.manager.Manager.play.Goals as goal
 
 pub loop-event-init : goal.loop-event-init

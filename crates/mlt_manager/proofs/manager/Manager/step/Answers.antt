@@ -1,8 +1,6 @@
 use Rattle.std.proofs.Common.{IfOk, ap, subst, ◌∙◌}
 use Rattle.mlt_manager.proofs.Names.{counted, LeavesBase, fields_of}
-use Rattle.mlt_manager.proofs.Keeping.{is_counted}
-use Rattle.mlt_manager.proofs.Kept.{step_kept, step_leads}
-use Rattle.mlt_manager.proofs.Others.{step_others}
+use Rattle.mlt_manager.proofs.{Keeping.is_counted, Kept.step_kept, Kept.step_leads, Others.step_others}
 use Rattle.mlt_manager.proofs.manager.Manager.step.Goals as goal
 
 pub step-requires : goal.step-requires

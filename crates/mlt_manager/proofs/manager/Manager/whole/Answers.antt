@@ -1,9 +1,6 @@
 use Rattle.std.proofs.Common.{IfOk, ap, subst, ◌∙◌}
 use Rattle.mlt_manager.proofs.Names.{WholeLeavesBase, counted, fields_of}
-use Rattle.mlt_manager.proofs.WholeBases.{whole_leads}
-use Rattle.mlt_manager.proofs.Keeping.{is_counted}
-use Rattle.mlt_manager.proofs.Kept.{whole_kept}
-use Rattle.mlt_manager.proofs.Others.{whole_others}
+use Rattle.mlt_manager.proofs.{WholeBases.whole_leads, Keeping.is_counted, Kept.whole_kept, Others.whole_others}
 use Rattle.mlt_manager.proofs.manager.Manager.whole.Goals as goal
 
 pub whole-requires : goal.whole-requires

@@ -1,9 +1,6 @@
 use Rattle.std.proofs.Common.{IfOk, ap, subst, ◌∙◌}
 use Rattle.mlt_manager.proofs.Names.{UndoingLeavesBase, counted, fields_of}
-use Rattle.mlt_manager.proofs.UndoingBases.{whole_undo_leads}
-use Rattle.mlt_manager.proofs.Keeping.{is_counted}
-use Rattle.mlt_manager.proofs.Kept.{whole_undo_kept}
-use Rattle.mlt_manager.proofs.Others.{whole_undo_others}
+use Rattle.mlt_manager.proofs.{UndoingBases.whole_undo_leads, Keeping.is_counted, Kept.whole_undo_kept, Others.whole_undo_others}
 use Rattle.mlt_manager.proofs.manager.Manager.whole_undo.Goals as goal
 
 pub whole_undo-requires : goal.whole_undo-requires

@@ -1,9 +1,6 @@
 use Rattle.std.proofs.Common.{refl, subst, sym}
 use Rattle.mlt_manager.proofs.Names.{fields_of, LetsGoOn, Stops}
-use Rattle.mlt_manager.specs.Wholes.{RunsToEnd}
-use Rattle.mlt_manager.proofs.Chains.{up_to_keeps}
-use Rattle.mlt_manager.proofs.RunningOn.{not_dropped}
-use Rattle.mlt_manager.proofs.Stepping.{may_cancel}
+use Rattle.mlt_manager.{specs.Wholes.RunsToEnd, proofs.Chains.up_to_keeps, proofs.RunningOn.not_dropped, proofs.Stepping.may_cancel}
 use Rattle.mlt_manager.proofs.parts.Parts.run.Goals as goal
 
 pub cancel-requires : goal.cancel-requires

@@ -1,7 +1,6 @@
 use Rattle.std.proofs.Common.{refl, subst, ◌∙◌}
 use Rattle.mlt_manager.proofs.Names.{Answer, HasStepped, IsPending, fields_of, LetsGoOn}
-use Rattle.mlt_manager.proofs.Chains.{none_taken}
-use Rattle.mlt_manager.proofs.Finding.{pending_is_busy}
+use Rattle.mlt_manager.proofs.{Chains.none_taken, Finding.pending_is_busy}
 use Rattle.mlt_manager.proofs.RunningOn.{fewer_on, is_small, on_by_one, on_ends, stands_in}
 use Rattle.mlt_manager.proofs.parts.Parts.run_on.Goals as goal
 

@@ -1,7 +1,6 @@
 use Rattle.std.proofs.Common.{◌≡◌}
 use Rattle.mlt_manager.proofs.Names.{IsPending, fields_of, LetsGoOn}
-use Rattle.mlt_manager.proofs.Chains.{IsUnderWay}
-use Rattle.mlt_manager.proofs.RunningOn.{on_left}
+use Rattle.mlt_manager.proofs.{Chains.IsUnderWay, RunningOn.on_left}
 use Rattle.mlt_manager.proofs.parts.Parts.run_on.Given as goal
 
 abbrev pub invariant-loop-answer : goal.invariant-loop-answer

@@ -1,8 +1,6 @@
 use Rattle.std.proofs.Common.{refl, ◌∙◌}
 use Rattle.mlt_manager.proofs.Names.{IsUndoing, fields_of, GoesOnBack}
-use Rattle.mlt_manager.proofs.Chains.{none_taken}
-use Rattle.mlt_manager.proofs.Finding.{undoing_is_busy}
-use Rattle.mlt_manager.proofs.UndoingAll.{back_ends, back_on, fewer_left, goes_by}
+use Rattle.mlt_manager.proofs.{Chains.none_taken, Finding.undoing_is_busy, UndoingAll.back_ends, UndoingAll.back_on, UndoingAll.fewer_left, UndoingAll.goes_by}
 use Rattle.mlt_manager.proofs.parts.Parts.undo_all.Goals as goal
 
 pub loop-answer-init : goal.loop-answer-init

@@ -1,7 +1,6 @@
 use Rattle.std.proofs.Common.{◌≡◌}
 use Rattle.mlt_manager.proofs.Names.{IsUndoing, fields_of, GoesOnBack}
-use Rattle.mlt_manager.proofs.Chains.{IsUnderWay}
-use Rattle.mlt_manager.proofs.UndoingAll.{back_left}
+use Rattle.mlt_manager.proofs.{Chains.IsUnderWay, UndoingAll.back_left}
 use Rattle.mlt_manager.proofs.parts.Parts.undo_all.Given as goal
 
 abbrev pub invariant-loop-answer : goal.invariant-loop-answer

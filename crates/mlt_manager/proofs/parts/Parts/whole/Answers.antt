@@ -1,6 +1,5 @@
 use Rattle.mlt_manager.proofs.Names.{fields_of}
-use Rattle.mlt_manager.proofs.Called.{called_keeps}
-use Rattle.mlt_manager.proofs.RunningOn.{called_is_pending}
+use Rattle.mlt_manager.proofs.{Called.called_keeps, RunningOn.called_is_pending}
 use Rattle.mlt_manager.proofs.parts.Parts.whole.Goals as goal
 
 pub run-requires-clause-sound : goal.run-requires-clause-sound

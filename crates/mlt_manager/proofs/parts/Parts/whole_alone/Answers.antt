@@ -1,8 +1,6 @@
 use Rattle.std.proofs.Common.{Option, refl, subst}
 use Rattle.mlt_manager.proofs.Names.{ObjReply, context_by, CallsOneFast, ManagerFields, fields_of}
-use Rattle.mlt_manager.proofs.Fast.{called_fast, done_fast, may_call_fast}
-use Rattle.mlt_manager.proofs.Called.{called_keeps}
-use Rattle.mlt_manager.proofs.RunningOn.{called_is_pending}
+use Rattle.mlt_manager.proofs.{Fast.called_fast, Fast.done_fast, Fast.may_call_fast, Called.called_keeps, RunningOn.called_is_pending}
 use Rattle.mlt_manager.proofs.parts.Parts.whole_alone.Goals as goal
 
 pub call_fast-requires : goal.call_fast-requires

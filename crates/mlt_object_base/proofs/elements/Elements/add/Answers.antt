@@ -1,10 +1,8 @@
 use Rattle.std.proofs.Common.{◌≡◌, ◌+◌, ◌≤◌, ◌^◌, ℕ, true, false, is_some, cond, ap, sym, subst, ◌∙◌, arith}
 use Rattle.std.specs.FinMap as map
 use Rattle.mlt_object_base.proofs.Names.{with_entry, element_entry, AreCounted, kept_size}
-use Rattle.mlt_object_base.proofs.Counting.{Elements, elements_of, few_counted, still_counted}
-use Rattle.mlt_object_base.proofs.Maps.{element_map_updated}
+use Rattle.mlt_object_base.proofs.{Counting.Elements, Counting.elements_of, Counting.few_counted, Counting.still_counted, Maps.element_map_updated, elements.Elements.add.Goals.In_ok-insert, elements.Elements.add.Goals.In_ok-take_room}
 use Rattle.mlt_object_base.proofs.elements.Elements.add.Goals as goal
-use Rattle.mlt_object_base.proofs.elements.Elements.add.Goals.{In_ok-insert, In_ok-take_room}
 
 -- room for a size changes none
 counted : (c : In_ok-take_room) → AreCounted c.self.inside.keys.keys c.take_room.new.sizes.entries

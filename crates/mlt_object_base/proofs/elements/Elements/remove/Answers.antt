@@ -1,10 +1,8 @@
 use Rattle.std.proofs.Common.{◌≡◌, ◌+◌, ℕ, true, false, is_some, cond, ap, sym, subst, ◌∙◌, arith}
 use Rattle.std.specs.FinMap as map
 use Rattle.mlt_object_base.proofs.Names.{with_entry, element_entry, kept_size}
-use Rattle.mlt_object_base.proofs.Counting.{Elements, elements_of, one_counted, still_counted}
-use Rattle.mlt_object_base.proofs.Maps.{element_map_updated}
+use Rattle.mlt_object_base.proofs.{Counting.Elements, Counting.elements_of, Counting.one_counted, Counting.still_counted, Maps.element_map_updated, elements.Elements.remove.Goals.After-remove}
 use Rattle.mlt_object_base.proofs.elements.Elements.remove.Goals as goal
-use Rattle.mlt_object_base.proofs.elements.Elements.remove.Goals.{After-remove}
 
 -- the element was there
 there : (c : After-remove) → is_some (map.get (elements_of c.self.inside.keys.keys) (c.args.set, c.args.element)) ≡ true

@@ -1,7 +1,6 @@
 use Rattle.std.proofs.Common.{◌≡◌, true, sym, subst, ◌∙◌}
 use Rattle.mlt_object_locks.proofs.Names.{list_all, IsInTheWay, IsLowestInTheWay, StandsAgainst, is_of}
-use Rattle.mlt_object_locks.proofs.Holding.{alone, stands_against, stands_in_the_way}
-use Rattle.mlt_object_locks.proofs.Lowest.{same_lowest}
+use Rattle.mlt_object_locks.proofs.{Holding.alone, Holding.stands_against, Holding.stands_in_the_way, Lowest.same_lowest}
 use Rattle.mlt_object_locks.proofs.holders.Holders.lowest_clash.Goals as goal
 
 pub returns-then-is_alone : goal.returns-then-is_alone

@@ -1,11 +1,6 @@
 use Rattle.std.proofs.Common.{◌≡◌, ℕ, Option, None, [], ◌∷◌, sym, ap, subst, ◌∙◌, arith}
 use Rattle.mlt_object_locks.proofs.Names.{IsInRange, cell_of, IsLowestOf, Locks, reservation_of, bit_of_item, NotesEach, noted_of, places_if_any, places_of, GrantsAt, IsHereAt, IsSound, StandsAtOne, list_at}
-use Rattle.mlt_object_locks.proofs.Changes.{granted_more, nobody_granted}
-use Rattle.mlt_object_locks.proofs.Clashing.{lowest_of_all, lowest_with_none}
-use Rattle.mlt_object_locks.proofs.Holding.{alone}
-use Rattle.mlt_object_locks.proofs.Membership.{contains_first, none_in_empty}
-use Rattle.mlt_object_locks.proofs.Notes.{notes_more, notes_nothing}
-use Rattle.mlt_object_locks.proofs.Sound.{sound_granted}
+use Rattle.mlt_object_locks.proofs.{Changes.granted_more, Changes.nobody_granted, Clashing.lowest_of_all, Clashing.lowest_with_none, Holding.alone, Membership.contains_first, Membership.none_in_empty, Notes.notes_more, Notes.notes_nothing, Sound.sound_granted}
 use Rattle.mlt_object_locks.proofs.locks.ObjectLocks.ask.Goals as goal
 
 pub grant-requires-clause-here : goal.grant-requires-clause-here

@@ -1,7 +1,6 @@
 use Rattle.std.proofs.Common.{◌≤◌, ℕ, List, Option, length, rules, sym, ap, subst, ◌∙◌, arith}
 use Rattle.mlt_object_locks.proofs.Names.{cell_of, HoldsClash, IsLowestOf, Locks, reservation_of, bit_of_item, NotesEach, noted_of, looked_at, places_if_any, places_of, GrantsAt, IsHereAt, IsSound}
-use Rattle.mlt_object_locks.proofs.Clashing.{lowest_of_all}
-use Rattle.mlt_object_locks.proofs.Sound.{few_places, sound_granted}
+use Rattle.mlt_object_locks.proofs.{Clashing.lowest_of_all, Sound.few_places, Sound.sound_granted}
 use Rattle.mlt_object_locks.proofs.locks.ObjectLocks.ask_anywhere.Goals as goal
 
 pub returns-in-Some : goal.returns-in-Some

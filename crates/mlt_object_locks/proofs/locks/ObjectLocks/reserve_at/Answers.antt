@@ -1,7 +1,6 @@
 use Rattle.std.proofs.Common.{◌≡◌, ◌≤◌, Some, Contains, refl, rules, sym, ap, subst, ◌∙◌, inl, inr}
 use Rattle.mlt_object_locks.proofs.Names.{Locks, reservation_of, SameReservations, places_if_any, places_of, reserved_places, holder_of, GivesUp, IsHereAt, IsSound, JoinsAt}
-use Rattle.mlt_object_locks.proofs.Notes.{keeps_noted}
-use Rattle.mlt_object_locks.proofs.Sound.{sound_unchanged, sound_reserved}
+use Rattle.mlt_object_locks.proofs.{Notes.keeps_noted, Sound.sound_unchanged, Sound.sound_reserved}
 use Rattle.mlt_object_locks.proofs.locks.ObjectLocks.reserve_at.Goals as goal
 
 pub invariant_of-self-in_err-make_room-2 : goal.invariant_of-self-in_err-make_room-2

@@ -1,7 +1,6 @@
 use Rattle.std.proofs.Common.{◌≡◌, None, Some, position, ap, sym, ◌∙◌}
 use Rattle.mlt_object_locks.proofs.Names.{reservation_of, CellsWithRoom, is_entry_of}
-use Rattle.mlt_object_locks.proofs.Entries.{found_value, nothing_found}
-use Rattle.mlt_object_locks.proofs.Reservations.{reservation_found}
+use Rattle.mlt_object_locks.proofs.{Entries.found_value, Entries.nothing_found, Reservations.reservation_found}
 use Rattle.mlt_object_locks.proofs.reserved.Reserved.cell_of.Goals as goal
 
 nothing : (c : goal.In-None) → None ≡ reservation_of c.args.self.now.items c.args.tx

@@ -1,7 +1,5 @@
 use Rattle.std.proofs.Common.{ap, arith, length-set, ◌∙◌}
-use Rattle.mlt_page.specs.Slots.{half}
-use Rattle.mlt_page.specs.Values.{BucketFields}
-use Rattle.mlt_page.proofs.Halves.{next_half, all_halves}
+use Rattle.mlt_page.{specs.Slots.half, specs.Values.BucketFields, proofs.Halves.next_half, proofs.Halves.all_halves}
 use Rattle.mlt_page.proofs.bucket.Bucket.part.Goals as goal
 
 pub loop-at-preserved : goal.loop-at-preserved

@@ -1,6 +1,5 @@
 use Rattle.std.proofs.Common.{◌≡◌, length}
-use Rattle.mlt_page.specs.Slots.{half}
-use Rattle.mlt_page.proofs.Halves.{AreHalves}
+use Rattle.mlt_page.{specs.Slots.half, proofs.Halves.AreHalves}
 use Rattle.mlt_page.proofs.bucket.Bucket.part.Given as goal
 
 abbrev pub invariant-loop-at : goal.invariant-loop-at

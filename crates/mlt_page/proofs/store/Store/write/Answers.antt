@@ -1,11 +1,7 @@
 use Rattle.std.proofs.Common.{sym, ap, ◌∙◌}
-use Rattle.std.proofs.lemmas.Bool.{false≢true}
-use Rattle.std.specs.Option.{option_copied_mut}
-use Rattle.mlt_page.specs.Numbered.{pages_of}
-use Rattle.mlt_page.specs.declared.store.Store.TheInside.{Inside}
-use Rattle.mlt_page.proofs.Numbered.{page_written}
+use Rattle.std.{proofs.lemmas.Bool.false≢true, specs.Option.option_copied_mut}
+use Rattle.mlt_page.{specs.Numbered.pages_of, specs.declared.store.Store.TheInside.Inside, proofs.Numbered.page_written, proofs.store.Store.write.Goals.in-Some, proofs.store.Store.write.Goals.in-None}
 use Rattle.mlt_page.proofs.store.Store.write.Goals as goal
-use Rattle.mlt_page.proofs.store.Store.write.Goals.{in-Some, in-None}
 
 pub returns-clause-pages : goal.returns-clause-pages
 returns-clause-pages c = elim c.match-get_mut.branch [

@@ -1,7 +1,6 @@
 use Rattle.std.proofs.Common.{◌≡◌, ◌<◌, ℕ, ◌*◌, ◌%◌, ◌^◌, List, bit_and, get_or, length, w64, sym, ap, subst, ◌∙◌}
 use Rattle.mlt_page_locks.proofs.Names.{bit_at, get_or_default, IsMarked, row_of}
-use Rattle.std.specs.Int.{bit_not}
-use Rattle.std.proofs.lemmas.Nat.Bits.{bit_at_clear_same, bit_at_clear_other}
+use Rattle.std.{specs.Int.bit_not, proofs.lemmas.Nat.Bits.bit_at_clear_same, proofs.lemmas.Nat.Bits.bit_at_clear_other}
 use Rattle.mlt_page_locks.proofs.Bits.{kept_at, had_at, unmarked_at, bit_of_both}
 use Rattle.mlt_page_locks.proofs.marks.Marks.unmark.Goals as goal
 

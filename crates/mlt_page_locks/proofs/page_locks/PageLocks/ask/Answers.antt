@@ -1,10 +1,7 @@
 use Rattle.std.proofs.Common.{sym, ap, subst, set, List, ◌∙◌}
 use Rattle.mlt_page_locks.proofs.Names.{LockTable, HasRoom, granted, conflicts, IsNobody, HeldPages, lock_table, IsMarked}
-use Rattle.mlt_page_locks.proofs.LockLaws.{compatible_granted}
-use Rattle.mlt_page_locks.proofs.Covering.{covers_added}
-use Rattle.mlt_page_locks.proofs.Places.{GrantedAt, granted_at, has_place, room_at}
+use Rattle.mlt_page_locks.proofs.{LockLaws.compatible_granted, Covering.covers_added, Places.GrantedAt, Places.granted_at, Places.has_place, Places.room_at, page_locks.PageLocks.ask.Goals.After-mark}
 use Rattle.mlt_page_locks.proofs.page_locks.PageLocks.ask.Goals as goal
-use Rattle.mlt_page_locks.proofs.page_locks.PageLocks.ask.Goals.{After-mark}
 
 nobody : (c : After-mark) → IsNobody (conflicts (lock_table c.self.inside.lists.items) c.args.tx c.args.page c.args.mode)
 nobody c = subst (λ (lists : List HeldPages). IsNobody (conflicts (lock_table lists) c.args.tx c.args.page c.args.mode)) c.deref.ensures.value c.in_default.ensures

@@ -1,7 +1,6 @@
 use Rattle.std.proofs.Common.{◌≡◌, ap, ◌∙◌, arith}
 use Rattle.mlt_page_locks.proofs.Names.{no_locks}
-use Rattle.mlt_page_locks.proofs.Tables.{blank_lists}
-use Rattle.mlt_page_locks.proofs.Covering.{covers_free}
+use Rattle.mlt_page_locks.proofs.{Tables.blank_lists, Covering.covers_free}
 use Rattle.mlt_page_locks.proofs.page_locks.PageLocks.new.Goals as goal
 
 pub invariant_of-result : goal.invariant_of-result

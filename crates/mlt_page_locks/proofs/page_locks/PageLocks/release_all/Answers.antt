@@ -1,9 +1,7 @@
 use Rattle.std.proofs.Common.{ap, sym, ◌∙◌, set, position}
 use Rattle.std.specs.FinMap as map
 use Rattle.mlt_page_locks.proofs.Names.{LockTable, released, HeldPages, is_list_of, lock_table, position-Some}
-use Rattle.mlt_page_locks.proofs.Tables.{nothing_released}
-use Rattle.mlt_page_locks.proofs.Grants.{Makes, cleared}
-use Rattle.mlt_page_locks.proofs.Covering.{covers_cleared}
+use Rattle.mlt_page_locks.proofs.{Tables.nothing_released, Grants.Makes, Grants.cleared, Covering.covers_cleared}
 use Rattle.mlt_page_locks.proofs.page_locks.PageLocks.release_all.Goals as goal
 
 made : (c : goal.After-self-1) → Makes (set c.self.inside.lists.items c.in-Some.place c.clear.new.self) (released (lock_table c.self.inside.lists.items) c.args.tx)

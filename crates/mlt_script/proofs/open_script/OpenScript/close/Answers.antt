@@ -1,7 +1,6 @@
 use Rattle.std.proofs.Common.{◌≡◌, ◌∷◌, ◌++◌, [], reverse, ap, refl, ◌∙◌, List, Bool, true, false, not}
 use Rattle.mlt_script.proofs.Names.{reverse-append, Line, Else, End}
-use Rattle.mlt_script.proofs.Placing.{kept_end, kept_end_first}
-use Rattle.mlt_script.proofs.open_script.OpenScript.close.Goals.{then-not-frame+in_ok-push-in-Some, else-not-frame}
+use Rattle.mlt_script.proofs.{Placing.kept_end, Placing.kept_end_first, open_script.OpenScript.close.Goals.then-not-frame+in_ok-push-in-Some, open_script.OpenScript.close.Goals.else-not-frame}
 use Rattle.mlt_script.proofs.open_script.OpenScript.close.Goals as goal
 
 was_false : (b : Bool) → not b ≡ true → b ≡ false

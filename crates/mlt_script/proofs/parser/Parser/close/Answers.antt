@@ -1,8 +1,6 @@
 use Rattle.std.proofs.Common.{◌≡◌, length, reverse, List, [], ap, sym, refl, ◌∙◌, ◌∷◌, ◌++◌, Ok, rules, arith}
 use Rattle.mlt_script.proofs.Names.{Frame, Line, Open, Closes, state_of, ended, step, Outside, Inside, ScriptForm, open_of, whole}
-use Rattle.mlt_script.specs.Parsers.{state_with}
-use Rattle.mlt_script.specs.Scripts.{tree_of}
-use Rattle.mlt_script.proofs.Placing.{at_top}
+use Rattle.mlt_script.{specs.Parsers.state_with, specs.Scripts.tree_of, proofs.Placing.at_top}
 use Rattle.mlt_script.proofs.parser.Parser.close.Goals as goal
 
 is_none : (fs : List Frame) → length fs ≡ 0 → reverse fs ≡ []

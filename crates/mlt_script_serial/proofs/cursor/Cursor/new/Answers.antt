@@ -1,7 +1,6 @@
 use Rattle.std.proofs.Common.{ap, ◌∙◌, List}
 use Rattle.mlt_script_serial.proofs.Names.{Nowhere, Line, no_values, questions, Ends, Ending}
-use Rattle.mlt_script_serial.specs.Runs.{run}
-use Rattle.mlt_script_serial.proofs.Trees.{whole}
+use Rattle.mlt_script_serial.{specs.Runs.run, proofs.Trees.whole}
 use Rattle.mlt_script_serial.proofs.cursor.Cursor.new.Goals as goal
 
 pub returns : goal.returns

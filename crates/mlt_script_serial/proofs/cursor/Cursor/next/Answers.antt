@@ -1,7 +1,6 @@
 use Rattle.std.proofs.Common.{sym, subst, ◌∙◌}
 use Rattle.mlt_script_serial.proofs.Names.{Next, questions_of, Questions, IsNext}
-use Rattle.mlt_script_serial.proofs.Running.{some_line}
-use Rattle.mlt_script_serial.proofs.Running.{next_line, run_out, asks}
+use Rattle.mlt_script_serial.proofs.Running.{some_line, next_line, run_out, asks}
 use Rattle.mlt_script_serial.proofs.cursor.Cursor.next.Goals as goal
 
 pub returns-then-self-clause-next : goal.returns-then-self-clause-next

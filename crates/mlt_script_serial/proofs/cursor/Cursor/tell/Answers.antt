@@ -1,8 +1,6 @@
 use Rattle.std.proofs.Common.{◌≡◌, ◌<◌, ◌+◌, Some, None, length, drop, get_or, sym, ◌∙◌, ap, arith, le_refl}
-use Rattle.mlt_script_serial.proofs.Running.{some_line}
+use Rattle.mlt_script_serial.{proofs.Running.some_line, specs.Runs.run, proofs.Running.in_range, proofs.Running.tells, proofs.Running.run_out}
 use Rattle.mlt_script_serial.proofs.Names.{Abort, Variables, heard, heard_values, after_hearing}
-use Rattle.mlt_script_serial.specs.Runs.{run}
-use Rattle.mlt_script_serial.proofs.Running.{in_range, tells, run_out}
 use Rattle.mlt_script_serial.proofs.cursor.Cursor.tell.Goals as goal
 
 pub bounds-self-self : goal.bounds-self-self

@@ -1,9 +1,6 @@
 use Rattle.std.proofs.Common.{rules, ◌≡◌, [], IfSome, Option, Some, length, subst, sym}
-use Rattle.mlt_serve.specs.Loads.{Heard, IsHeard, ends}
-use Rattle.mlt_serve.specs.declared.operating.Load.{Load}
-use Rattle.mlt_serve.proofs.Loading.{all_heard}
+use Rattle.mlt_serve.{specs.Loads.Heard, specs.Loads.IsHeard, specs.Loads.ends, specs.declared.operating.Load.Load, proofs.Loading.all_heard, proofs.session_thread.SessionThread.load.Goals.then-is_empty, proofs.session_thread.SessionThread.load.Goals.else-is_empty}
 use Rattle.mlt_serve.proofs.session_thread.SessionThread.load.Goals as goal
-use Rattle.mlt_serve.proofs.session_thread.SessionThread.load.Goals.{then-is_empty, else-is_empty}
 
 pub returns : goal.returns
 returns g c =

@@ -1,9 +1,7 @@
 use Rattle.std.proofs.Common.{rules, ◌≡◌, subst, sym}
 use Rattle.mlt_serve_session.specs.declared.sessions.Summary.{Summary}
 use Rattle.mlt_serve.proofs.Names.{StartsWith, first_items, AreOfClients, GrowsFor, TellsOutcomes}
-use Rattle.mlt_serve.proofs.Numbering.{grown}
-use Rattle.mlt_serve.proofs.Receiving.{grows, hears, sees_on}
-use Rattle.mlt_serve.proofs.Telling.{grown_told}
+use Rattle.mlt_serve.proofs.{Numbering.grown, Receiving.grows, Receiving.hears, Receiving.sees_on, Telling.grown_told}
 use Rattle.mlt_serve.proofs.session_thread.SessionThread.serve.Goals as goal
 
 pub returns-clause-outcomes : goal.returns-clause-outcomes

@@ -1,8 +1,7 @@
 use Rattle.std.proofs.Common.{Err, ◌+◌, refl, sym, subst, ap, ◌∙◌, arith}
 use Rattle.mlt_trace_check.proofs.Names.{err_from_is_err_and, Step, Runs, Replays, dones}
-use Rattle.mlt_trace_check.proofs.Knowing.{commit_fails, is_undoing, knows_commit}
+use Rattle.mlt_trace_check.proofs.{Knowing.commit_fails, Knowing.is_undoing, Knowing.knows_commit, checker.Checker.commit.Goals.then-one-via-then-one, checker.Checker.commit.Goals.then-one-via-else-one+then-not-is_next}
 use Rattle.mlt_trace_check.proofs.checker.Checker.commit.Goals as goal
-use Rattle.mlt_trace_check.proofs.checker.Checker.commit.Goals.{then-one-via-then-one, then-one-via-else-one+then-not-is_next}
 
 pub returns-then-one : goal.returns-then-one
 returns-then-one c = rw c.misplaced-then-one.ensures (λ items h at. (

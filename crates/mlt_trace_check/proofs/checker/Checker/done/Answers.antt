@@ -1,6 +1,5 @@
 use Rattle.std.proofs.Common.{◌≡◌, ◌∙◌, Some, IsSome, refl, sym, ap, subst, arith, nat_cmp}
-use Rattle.std.specs.BTreeMap.{get_by}
-use Rattle.std.specs.Option.{option_copied_mut}
+use Rattle.std.specs.{BTreeMap.get_by, Option.option_copied_mut}
 use Rattle.mlt_trace_check.proofs.Names.{OpenTx}
 use Rattle.mlt_trace_check.proofs.Knowing.{knows_done}
 use Rattle.mlt_trace_check.proofs.checker.Checker.done.Goals as goal

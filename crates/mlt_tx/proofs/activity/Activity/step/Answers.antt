@@ -1,9 +1,6 @@
 use Rattle.std.proofs.Common.{◌≡◌, Option, refl, sym, ap, subst, ◌∙◌}
 use Rattle.mlt_tx.proofs.Names.{WalkContext, context_in, OperationFields, Answer, SharedState, At, Transaction, LeavesRoom, pending_after}
-use Rattle.mlt_tx.specs.declared.activity.ActivityState.{ActivityState}
-use Rattle.mlt_tx.specs.Activities.{at_of}
-use Rattle.mlt_tx.specs.Transactions.{TellsAt, transaction_at}
-use Rattle.mlt_tx.proofs.Pending.{keeps_room, still_pending}
+use Rattle.mlt_tx.{specs.declared.activity.ActivityState.ActivityState, specs.Activities.at_of, specs.Transactions.TellsAt, specs.Transactions.transaction_at, proofs.Pending.keeps_room, proofs.Pending.still_pending}
 use Rattle.mlt_tx.proofs.activity.Activity.step.Goals as goal
 
 pending_is : (s : ActivityState) (o : OperationFields) (i : Option OperationFields) → s ≡ ActivityState.Pending → at_of s o i ≡ At.Pending o

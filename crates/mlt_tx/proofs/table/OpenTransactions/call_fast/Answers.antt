@@ -1,8 +1,7 @@
 use Rattle.std.proofs.Common.{ℕ, sym, ◌∙◌}
 use Rattle.mlt_tx.proofs.Names.{on_err_weaker, WalkContext, ChangesOne}
 use Rattle.mlt_hash.specs.Walks.{context_in}
-use Rattle.mlt_tx.proofs.FastCalls.{calls_if_ok}
-use Rattle.mlt_tx.proofs.TxSlots.{transaction_changed, it_sits, not_open, one_changes}
+use Rattle.mlt_tx.proofs.{FastCalls.calls_if_ok, TxSlots.transaction_changed, TxSlots.it_sits, TxSlots.not_open, TxSlots.one_changes}
 use Rattle.mlt_tx.proofs.table.OpenTransactions.call_fast.Goals as goal
 
 pub unreachable-requires : goal.unreachable-requires

@@ -1,8 +1,7 @@
 use Rattle.std.proofs.Common.{refl, sym, ◌∙◌}
 use Rattle.mlt_tx.proofs.Names.{on_err_weaker, IsPending, IsUndoing}
 use Rattle.std.proofs.lemmas.Result.{on_ok_weaker}
-use Rattle.mlt_tx.proofs.TxSlots.{transaction_changed, one_changes}
-use Rattle.mlt_tx.proofs.Trying.{call_tried, not_found, found_at, found_idle}
+use Rattle.mlt_tx.proofs.{TxSlots.transaction_changed, TxSlots.one_changes, Trying.call_tried, Trying.not_found, Trying.found_at, Trying.found_idle}
 use Rattle.mlt_tx.proofs.table.OpenTransactions.try_call.Goals as goal
 
 pub returns-in_default-clause-tries : goal.returns-in_default-clause-tries

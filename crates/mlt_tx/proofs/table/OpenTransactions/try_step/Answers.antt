@@ -1,8 +1,6 @@
 use Rattle.std.proofs.Common.{◌≡◌, Some, refl, sym, subst, ◌∙◌}
 use Rattle.mlt_tx.proofs.Names.{Transaction, IsBusy}
-use Rattle.mlt_tx.specs.OpenAt.{IsIdle}
-use Rattle.mlt_tx.proofs.TxSlots.{transaction_changed, one_changes}
-use Rattle.mlt_tx.proofs.Trying.{busy_unless_idle, not_found, found_there, found_at}
+use Rattle.mlt_tx.{specs.OpenAt.IsIdle, proofs.TxSlots.transaction_changed, proofs.TxSlots.one_changes, proofs.Trying.busy_unless_idle, proofs.Trying.not_found, proofs.Trying.found_there, proofs.Trying.found_at}
 use Rattle.mlt_tx.proofs.table.OpenTransactions.try_step.Goals as goal
 
 pub returns-in_default-clause-tries : goal.returns-in_default-clause-tries

@@ -1,8 +1,7 @@
 use Rattle.std.proofs.Common.{◌≡◌, ◌<◌, Option, None, Some, sym, ap, subst, ◌∙◌}
 use Rattle.mlt_tx_operation.proofs.Names.{ObjReply, LocalState, local, view_of, WalkContext, context_in, steps_of_two_records, StepAnswer, IsRefused, TellsOfStep, Waits, MayOperate, OperationFields, on_one, on_two, WalkingFields, walking}
 use Rattle.mlt_tx_two_records.proofs.TwoRecordSteps.{end_is_left, one_fewer_at_least}
-use Rattle.mlt_tx_operation.proofs.TwoRecordWalks.{two_records_goes_on, two_records_refused, two_records_tells, two_records_waits}
-use Rattle.mlt_tx_operation.proofs.Operations.{may_go_on, may_walk_on}
+use Rattle.mlt_tx_operation.proofs.{TwoRecordWalks.two_records_goes_on, TwoRecordWalks.two_records_refused, TwoRecordWalks.two_records_tells, TwoRecordWalks.two_records_waits, Operations.may_go_on, Operations.may_walk_on}
 use Rattle.mlt_tx_operation.proofs.operation.Operation.step.Goals as goal
 
 pub step_walk-requires-clause-ready : goal.step_walk-requires-clause-ready

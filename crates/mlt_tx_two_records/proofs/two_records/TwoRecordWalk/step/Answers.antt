@@ -1,8 +1,6 @@
 use Rattle.std.proofs.Common.{◌≡◌, refl, sym, ap, subst, ◌∙◌}
 use Rattle.mlt_tx_two_records.proofs.Names.{LocalState, local, view_of, WalkContext, context_in, TwoRecordWalk, Owing, Wide, WideStage, TellsOfTwoRecords, OwesOne}
-use Rattle.mlt_tx_two_records.specs.Answers.{TellsLast}
-use Rattle.mlt_tx_two_records.specs.TwoRecordWalks.{Stands}
-use Rattle.mlt_tx_two_records.proofs.FirstSteps.{owing_tells}
+use Rattle.mlt_tx_two_records.{specs.Answers.TellsLast, specs.TwoRecordWalks.Stands, proofs.FirstSteps.owing_tells}
 use Rattle.mlt_tx_two_records.proofs.two_records.TwoRecordWalk.step.Goals as goal
 
 pub write_earlier-requires-clause-ready : goal.write_earlier-requires-clause-ready

@@ -1,9 +1,7 @@
 use Rattle.std.proofs.Common.{rules, ◌≡◌, subst}
 use Rattle.mlt_script_serial.specs.Calls.{answer_by}
 use Rattle.mlt_work_desk.proofs.Names.{Replied, DeskCall, StartsWith, first_items, SeesAnswer, SpendsByWaits}
-use Rattle.mlt_work_desk.specs.Holds.{MayAnswerOperation, desk_view}
-use Rattle.mlt_work_desk.specs.Tries.{tries_called}
-use Rattle.mlt_work_desk.proofs.Seeing.{sees_later, sees_more}
+use Rattle.mlt_work_desk.{specs.Holds.MayAnswerOperation, specs.Holds.desk_view, specs.Tries.tries_called, proofs.Seeing.sees_later, proofs.Seeing.sees_more}
 use Rattle.mlt_work_desk.proofs.calls.LockDeskAnswering.operation.Goals as goal
 
 pub returns-in-Called : goal.returns-in-Called

@@ -1,10 +1,8 @@
 use Rattle.std.proofs.Common.{rules, ◌≡◌, ◌≢◌, ◌∙◌, List, [], ◌∷◌, length, false, ap, refl, arith}
 use Rattle.mlt_work_desk.proofs.Names.{first_items, EndsWithOp, is_done}
-use Rattle.mlt_work_desk.proofs.Cycles.{youngest_of_cycle}
-use Rattle.mlt_work_desk.proofs.Replying.{reply_not_done, reply_then}
+use Rattle.mlt_work_desk.proofs.{Cycles.youngest_of_cycle, Replying.reply_not_done, Replying.reply_then, lock_desk.LockDesk.hold.Goals.then-is_done, lock_desk.LockDesk.hold.Goals.else-is_done, lock_desk.LockDesk.hold.Goals.then-not-is_empty, lock_desk.LockDesk.hold.Goals.else-not-is_empty}
 use Rattle.mlt_work_log.specs.declared.seats.Past.{Past}
 use Rattle.mlt_work_desk.proofs.lock_desk.LockDesk.hold.Goals as goal
-use Rattle.mlt_work_desk.proofs.lock_desk.LockDesk.hold.Goals.{then-is_done, else-is_done, then-not-is_empty, else-not-is_empty}
 
 pub returns-clause-another : goal.returns-clause-another
 returns-clause-another g c = λ no_reply.

@@ -1,10 +1,8 @@
 use Rattle.std.proofs.Common.{rules, ◌≡◌, ◌∙◌, ap, inl, inr, false, refl, subst, true}
 use Rattle.mlt_types.specs.declared.refusal.Refusal.TheVariants.{GaveUp}
 use Rattle.mlt_work_desk.proofs.Names.{Answer, Event, Told, DeskCall, first_items, EndsWithOp, IfReply, IsToldTo, SeesEvent, SleepingThread}
-use Rattle.mlt_work_desk.specs.Tries.{GivesUp}
+use Rattle.mlt_work_desk.{specs.Tries.GivesUp, proofs.Seeing.more_than, proofs.Seeing.sees_more, proofs.Seeing.sees_refused, proofs.Seeing.sees_replied, proofs.Trying.spends_none, proofs.Trying.spends_one}
 use Rattle.mlt_work_waits.specs.Gates.{is_to_wait}
-use Rattle.mlt_work_desk.proofs.Seeing.{more_than, sees_more, sees_refused, sees_replied}
-use Rattle.mlt_work_desk.proofs.Trying.{spends_none, spends_one}
 use Rattle.mlt_work_desk.proofs.lock_desk.LockDesk.step.Goals as goal
 
 pub returns-in-Answered-Done-clause-sees : goal.returns-in-Answered-Done-clause-sees

@@ -1,7 +1,6 @@
 use Rattle.std.proofs.Common.{◌∙◌}
 use Rattle.mlt_work_desk.proofs.Names.{first_items}
-use Rattle.mlt_work_desk.proofs.Seeing.{more_than}
-use Rattle.mlt_work_desk.proofs.Trying.{spends_more}
+use Rattle.mlt_work_desk.proofs.{Seeing.more_than, Trying.spends_more}
 use Rattle.mlt_work_desk.proofs.lock_desk.LockDesk.steps.Goals as goal
 
 pub loop-preserved : goal.loop-preserved

@@ -1,8 +1,5 @@
 use Rattle.std.proofs.Common.{◌≡◌, ◌∙◌, ◌+◌, ◌-◌, ◌^◌, ◌++◌, Some, ap, min, arith, sym}
-use Rattle.mlt_work_desk.proofs.Adding.{event_adds}
-use Rattle.mlt_work_desk.proofs.Counting.{one_event, same_making}
-use Rattle.mlt_work_desk.proofs.Playing.{still_played}
-use Rattle.mlt_work_desk.proofs.Replying.{keeps_reply}
+use Rattle.mlt_work_desk.proofs.{Adding.event_adds, Counting.one_event, Counting.same_making, Playing.still_played, Replying.keeps_reply}
 use Rattle.mlt_work_log.specs.declared.seats.Past.{Past}
 use Rattle.mlt_work_desk.proofs.locked_state.LockedState.act.Goals as goal
 

@@ -1,7 +1,5 @@
 use Rattle.std.proofs.Common.{rules, ◌∙◌, ap, subst, sym}
-use Rattle.mlt_work_log.specs.declared.seats.LogView.{LogView}
-use Rattle.mlt_work_log.specs.Prefixes.{HasBegunWith}
-use Rattle.mlt_work_log.proofs.Moves.{grows, joins}
+use Rattle.mlt_work_log.{specs.declared.seats.LogView.LogView, specs.Prefixes.HasBegunWith, proofs.Moves.grows, proofs.Moves.joins}
 use Rattle.mlt_work_log.proofs.seats.HistoryLog.see.Goals as goal
 
 pub join_seat-requires : goal.join_seat-requires

@@ -1,6 +1,5 @@
 use Rattle.std.proofs.Common.{refl}
-use Rattle.mlt_work_waits.specs.Queues.{with_blocked}
-use Rattle.mlt_work_waits.proofs.InTurn.{same_turns, turns_with}
+use Rattle.mlt_work_waits.{specs.Queues.with_blocked, proofs.InTurn.same_turns, proofs.InTurn.turns_with}
 use Rattle.mlt_work_waits.proofs.desks.Desks.turn_after.Goals as goal
 
 pub invariant_of-self : goal.invariant_of-self

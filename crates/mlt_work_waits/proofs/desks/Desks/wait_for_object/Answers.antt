@@ -1,13 +1,6 @@
 use Rattle.std.proofs.Common.{rules, ◌≡◌, ◌∙◌, [], None, Some, refl, sym, subst, ap, arith, eq-eqb}
-use Rattle.mlt_work_waits.specs.Turns.{waiting, CantSleep}
-use Rattle.mlt_work_waits.specs.Waits.{Waits, others_in, wakers_in}
-use Rattle.mlt_work_waits.specs.declared.wait.Awaited.{Awaited}
-use Rattle.mlt_work_waits.specs.declared.wait.Whose.{Whose}
+use Rattle.mlt_work_waits.{specs.Turns.waiting, specs.Turns.CantSleep, specs.Waits.Waits, specs.Waits.others_in, specs.Waits.wakers_in, specs.declared.wait.Awaited.Awaited, specs.declared.wait.Whose.Whose, specs.declared.desks.Desks.Desks, proofs.Fewer.fewer_wait, proofs.InTurn.same_turns, proofs.InTurn.stay_in_turn, proofs.desks.Desks.wait_for_object.Goals.in-Some+else-eq, proofs.desks.Desks.wait_for_object.Goals.in_default}
 use Rattle.std.proofs.lemmas.Bool.{false≢true}
-use Rattle.mlt_work_waits.specs.declared.desks.Desks.{Desks}
-use Rattle.mlt_work_waits.proofs.Fewer.{fewer_wait}
-use Rattle.mlt_work_waits.proofs.InTurn.{same_turns, stay_in_turn}
-use Rattle.mlt_work_waits.proofs.desks.Desks.wait_for_object.Goals.{in-Some+else-eq, in_default}
 use Rattle.mlt_work_waits.proofs.desks.Desks.wait_for_object.Goals as goal
 
 pub invariant_of-self : goal.invariant_of-self

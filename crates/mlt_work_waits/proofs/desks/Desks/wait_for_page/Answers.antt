@@ -1,10 +1,5 @@
 use Rattle.std.proofs.Common.{◌∙◌, ap, arith}
-use Rattle.mlt_work_waits.specs.Turns.{waiting}
-use Rattle.mlt_work_waits.specs.Waits.{Waits, released}
-use Rattle.mlt_work_waits.specs.declared.wait.Awaited.{Awaited}
-use Rattle.mlt_work_waits.specs.declared.wait.Whose.{Whose}
-use Rattle.mlt_work_waits.proofs.Fewer.{fewer_wait}
-use Rattle.mlt_work_waits.proofs.InTurn.{same_turns}
+use Rattle.mlt_work_waits.{specs.Turns.waiting, specs.Waits.Waits, specs.Waits.released, specs.declared.wait.Awaited.Awaited, specs.declared.wait.Whose.Whose, proofs.Fewer.fewer_wait, proofs.InTurn.same_turns}
 use Rattle.mlt_work_waits.proofs.desks.Desks.wait_for_page.Goals as goal
 
 pub invariant_of-self : goal.invariant_of-self

@@ -1,8 +1,5 @@
 use Rattle.std.proofs.Common.{sym, subst}
-use Rattle.mlt_work_waits.specs.Waits.{CanJoin, IsAcyclic, LeadToAwake}
-use Rattle.mlt_work_waits.specs.declared.wait.Awaited.{Awaited}
-use Rattle.mlt_work_waits.proofs.Acyclic.{stays_acyclic}
-use Rattle.mlt_work_waits.proofs.Ends.{lead_to_awake}
+use Rattle.mlt_work_waits.{specs.Waits.CanJoin, specs.Waits.IsAcyclic, specs.Waits.LeadToAwake, specs.declared.wait.Awaited.Awaited, proofs.Acyclic.stays_acyclic, proofs.Ends.lead_to_awake}
 use Rattle.mlt_work_waits.proofs.waits.WaitsFor.join.Goals as goal
 
 one_more_object : (c : goal.After-push) → IsAcyclic (record { objects = c.push.new.self.items; pages = c.self.inside.pages.items })

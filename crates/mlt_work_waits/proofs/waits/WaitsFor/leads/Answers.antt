@@ -1,9 +1,6 @@
 use Rattle.std.proofs.Common.{◌∙◌, ◌+◌, [], ◌∷◌, ◌++◌, sym, subst, ap, arith, eq-eqb, eqb-true}
 use Rattle.std.proofs.lemmas.Bool.{false≢true}
-use Rattle.mlt_work_waits.specs.Waits.{LeadsBy}
-use Rattle.mlt_work_waits.proofs.Found.{found_is_for}
-use Rattle.mlt_work_waits.proofs.Ends.{ways_end}
-use Rattle.mlt_work_waits.proofs.Ways.{leads_by_holder, leads_nowhere, one_longer, one_more_by}
+use Rattle.mlt_work_waits.{specs.Waits.LeadsBy, proofs.Found.found_is_for, proofs.Ends.ways_end, proofs.Ways.leads_by_holder, proofs.Ways.leads_nowhere, proofs.Ways.one_longer, proofs.Ways.one_more_by}
 use Rattle.mlt_work_waits.proofs.waits.WaitsFor.leads.Goals as goal
 
 pub returns-in-None-clause-leads : goal.returns-in-None-clause-leads

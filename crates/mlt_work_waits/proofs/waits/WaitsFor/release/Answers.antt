@@ -1,8 +1,5 @@
 use Rattle.std.proofs.Common.{sym, subst}
-use Rattle.mlt_work_waits.specs.Waits.{IsAcyclic}
-use Rattle.mlt_work_waits.specs.declared.wait.Awaited.{Awaited}
-use Rattle.mlt_work_waits.proofs.Acyclic.{fewer_are_acyclic}
-use Rattle.mlt_work_waits.proofs.Ends.{lead_to_awake}
+use Rattle.mlt_work_waits.{specs.Waits.IsAcyclic, specs.declared.wait.Awaited.Awaited, proofs.Acyclic.fewer_are_acyclic, proofs.Ends.lead_to_awake}
 use Rattle.mlt_work_waits.proofs.waits.WaitsFor.release.Goals as goal
 
 fewer_objects : (c : goal.After-release_in) → IsAcyclic (record { objects = c.release_in.new.waits.items; pages = c.self.inside.pages.items })

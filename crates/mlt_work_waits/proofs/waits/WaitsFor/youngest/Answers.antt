@@ -1,8 +1,6 @@
 use Rattle.std.proofs.Common.{◌≡◌, ◌∙◌, Some, length, sym, subst, ap, inl, inr, arith, eq-eqb, eqb-true}
 use Rattle.std.proofs.lemmas.Bool.{false≢true}
-use Rattle.mlt_work_waits.specs.Waits.{IsAcyclic, Waits, wait_in}
-use Rattle.mlt_work_waits.proofs.Youngest.{walked_around, walked_no_longer, walked_on, walked_to_end}
-use Rattle.mlt_work_waits.proofs.waits.WaitsFor.youngest.Goals.{then-is_younger, else-is_younger}
+use Rattle.mlt_work_waits.{specs.Waits.IsAcyclic, specs.Waits.Waits, specs.Waits.wait_in, proofs.Youngest.walked_around, proofs.Youngest.walked_no_longer, proofs.Youngest.walked_on, proofs.Youngest.walked_to_end, proofs.waits.WaitsFor.youngest.Goals.then-is_younger, proofs.waits.WaitsFor.youngest.Goals.else-is_younger}
 use Rattle.mlt_work_waits.proofs.waits.WaitsFor.youngest.Goals as goal
 
 pub returns-then-eq-clause-youngest : goal.returns-then-eq-clause-youngest

@@ -1,5 +1,4 @@
-use Rattle.mlt_work_waits.specs.Waits.{IsAcyclic}
-use Rattle.mlt_work_waits.proofs.Youngest.{Walked}
+use Rattle.mlt_work_waits.{specs.Waits.IsAcyclic, proofs.Youngest.Walked}
 use Rattle.mlt_work_waits.proofs.waits.WaitsFor.youngest.Given as goal
 
 -- so many waits were followed, and the youngest of them kept
