@@ -1,4 +1,4 @@
-"""A server without end: what it holds does not grow with what it has done, with a trace, without one, and with one that can't be
+"""A server without end: on the same objects what it holds does not grow, with a trace, without one, and with one that can't be
 written; its trace is whole; and it ends as any server does."""
 import errno
 import os

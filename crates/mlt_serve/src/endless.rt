@@ -40,7 +40,8 @@ pub struct ServedEndless<P: Pseudo> {
 
 /// Serves connections as `serve_on` does, and keeps neither what clients were told nor what the manager did: each outcome is counted as
 /// it comes, and the history is taken out of the manager four times a second, or sooner where much is there, and is written into the
-/// trace, if there is a file for it, and then dropped. So what the server holds does not grow with what it has done.
+/// trace, if there is a file for it, and then dropped. So of all that was done the server holds the objects alone; the record of a
+/// counter, and of the size of a set, stays once it was made.
 ///
 /// At the end as many transactions were told begun as the manager has begun, and as many told committed as it has committed; and the
 /// manager's history, which clauses know whole, has each begin, the operations of each transaction with their replies, in order, and
