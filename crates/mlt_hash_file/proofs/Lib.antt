@@ -6,8 +6,5 @@ pub mod AloneInsertions
 pub mod AlonePages
 pub mod AlonePasses
 pub mod AloneSplits
-pub mod AloneSteps
 pub mod AloneWalks
 pub mod HashFiles
-pub mod OpenedFiles
-pub mod SplitPages
