@@ -3,7 +3,7 @@ use Rattle.std.proofs.Common.{◌≡◌, ◌≤◌, ◌+◌, ◌==◌, ℕ, List
 use Rattle.std.proofs.Common.{map as map_list}
 use Rattle.std.specs.FinMap as map
 use Rattle.mlt_types.specs.declared.limits.Limits.{Limits}
-use Rattle.mlt_manager_solo.proofs.Names.{Step, empty_base, IsHistory, ScriptForm, TraceItem, entries_of, Outcome, mark_of, outcome_text, Transaction, Table, HasBase, ManagerFields, IsAtRest, HasRunAll, HasRunScript}
+use Rattle.mlt_manager_solo.proofs.Names.{Step, empty_base, IsHistory, ScriptForm, TraceItem, entries_of, Outcome, mark_of, outcome_text, Transaction, Table, ManagerFields, IsAtRest, HasRunAll, HasRunScript}
 use Rattle.mlt_script.specs.Grammar.{Spells}
 use Rattle.mlt_hash_form.specs.File.{GivesPseudokeys}
 use Rattle.mlt_script_serial.{specs.Serial.AreRuns, proofs.Appends.numbered_push, proofs.Appends.runs_push}
@@ -38,15 +38,12 @@ module _ {P : Type 0} (bits_of : P → ℕ → ℕ) where
       limit = subst (λ (n : ℕ). 1 ≤ n) (sym new.made.open_at_most) limits.in_range.open_least;
     }
 
-    new_base : HasBase m empty_base
-    new_base = subst (λ (items : List TraceItem). IsHistory Step empty_base (entries_of items) empty_base) (sym new.items) refl
-
     -- **What its scripts have told is a solo text.**
     pub solo_text : (last : ManagerFields P) (bytes input : List ℕ) (read scripts : List ScriptForm) (outcomes : List Outcome) → bytes ≡ input → read ≡ scripts → Spells bytes scripts
         → HasRunAll bits_of read m last outcomes → IsSoloText bits_of limits pseudo input (flat_map outcome_text outcomes) last
     solo_text last bytes input read scripts outcomes same_bytes same_scripts spells all =
         let ran = subst (λ (ss : List ScriptForm). HasRunAll bits_of ss m last outcomes) same_scripts all in
-        let led = ran.leads empty_base new_base in
+        let led = ran.leads empty_base (subst (λ (items : List TraceItem). IsHistory Step empty_base (entries_of items) empty_base) (sym new.items) refl) in
         record {
           scripts = scripts;
           marks = map_list mark_of outcomes;

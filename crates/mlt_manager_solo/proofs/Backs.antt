@@ -1,10 +1,10 @@
 -- The ends of the transaction that alone is open: it commits, or is taken back
 use Rattle.std.proofs.Common.{◌≡◌, ◌≤◌, ℕ, None, Some, Ok, length, refl, sym, ap, subst, ◌∙◌}
 use Rattle.std.specs.FinMap as map
-use Rattle.mlt_manager_solo.proofs.Names.{Refusal, Base, Answer, At, Transaction, Table, inserted_elsewhere, removed_elsewhere, HasBegunAbort, HasClosed, HasCommitted, IsByAnother, IsIdle, IsOpenAt, IsUndoing, HasBase, UndoingLeavesBase, IsManager, ManagerFields, TraceItem, one_there, HasOneIdle, HasOneUndoing, IsAtRest, KeepsCommitted}
+use Rattle.mlt_manager_solo.proofs.Names.{Refusal, Answer, At, Transaction, Table, inserted_elsewhere, removed_elsewhere, HasBegunAbort, HasClosed, HasCommitted, IsByAnother, IsIdle, IsOpenAt, IsUndoing, UndoingLeavesBase, IsManager, ManagerFields, TraceItem, one_there, HasOneIdle, HasOneUndoing, IsAtRest, KeepsCommitted}
 use Rattle.mlt_manager_invariant.proofs.Tables.{removed_here}
 use Rattle.mlt_manager.{specs.Undoings.GoesOnBack, specs.Undoings.IsCauseAtUndo, specs.Undoings.IsNotUndoing, specs.Undoings.StepsBackUpTo, proofs.Ended.abort_begun_keeps, proofs.Ended.closed_keeps, proofs.Ended.committed_keeps, proofs.Kept.whole_undo_kept}
-use Rattle.mlt_manager_solo.proofs.Items.{backs_commit_none, commit_keeps_base, commits_none, committed_by}
+use Rattle.mlt_manager_solo.proofs.Items.{backs_commit_none, commits_none, committed_by}
 use Rattle.mlt_manager_solo.proofs.Steps.{StaysBeside, beside_both, changed_here, none_left, step_beside, steps_beside}
 
 module _ {P : Type 0} (bits_of : P → ℕ → ℕ) (old new : ManagerFields P) (tx : ℕ) (one : HasOneIdle bits_of old tx) where
@@ -12,12 +12,9 @@ module _ {P : Type 0} (bits_of : P → ℕ → ℕ) (old new : ManagerFields P) 
   ended_rests manager txs limit =
       none_left bits_of IsIdle old new tx one manager (ap (λ (t : Table). map.get t tx) txs ∙ removed_here old.txs tx) (λ i ne. ap (λ (t : Table). map.get t i) txs ∙ removed_elsewhere old.txs tx i ne) limit
 
-  -- **Once it committed, nobody is open,** and the base stays.
+  -- **Once it committed, nobody is open.**
   pub committed_rests : (number : ℕ) → HasCommitted old new tx number → IsAtRest bits_of new
   committed_rests number c = ended_rests (committed_keeps bits_of old one.manager tx new number c) c.ends.txs (ap (λ (n : ManagerFields P). n.max_open) c.rest)
-
-  pub committed_base : (number : ℕ) → HasCommitted old new tx number → (base : Base) → HasBase old base → HasBase new base
-  committed_base number c base leads = commit_keeps_base bits_of old one.manager tx number c.ends.one c.ends.there base leads new c.ends.items
 
   -- **The same once it is closed,** and no more is committed.
   pub closed_rests : HasClosed old new tx → IsAtRest bits_of new
@@ -40,7 +37,7 @@ abort_begins bits_of old new tx one a =
 
 module _ {P : Type 0} (bits_of : P → ℕ → ℕ) (old new : ManagerFields P) (tx : ℕ) (one : HasOneUndoing bits_of old tx) where
   pub back_beside : (told : Answer) → StepsBackUpTo bits_of old new tx told → StaysBeside old new tx
-  back_beside told s = beside_both old s.before new tx (steps_beside bits_of GoesOnBack old s.before tx s.steps s.goes) (step_beside bits_of s.before new tx told s.ends)
+  back_beside told s = beside_both (steps_beside bits_of GoesOnBack old s.before tx s.steps s.goes) (step_beside bits_of s.before new tx told s.ends)
 
   pub back_commits_nothing : StepsBackUpTo bits_of old new tx Answer.Aborted → UndoingLeavesBase Answer.Aborted old new tx → KeepsCommitted old new
   back_commits_nothing s base = (ap committed_by base.items ∙ backs_commit_none (length base.taken) old.shared.history.items tx, (back_beside Answer.Aborted s).commits)
@@ -62,9 +59,8 @@ module _ {P : Type 0} (bits_of : P → ℕ → ℕ) (old new : ManagerFields P) 
 
 -- what is undoing is to be undone
 undoing_or_not : (a : At) → IsUndoing a → IsNotUndoing a → ⊥
-undoing_or_not At.Idle none also = none
-undoing_or_not (At.Pending o) none also = none
 undoing_or_not (At.Undoing inverting) is none = none
+undoing_or_not other none also = none
 
 pub undoing_is_undoing : (reason : Refusal) (txs : Table) (tx : ℕ) → IsOpenAt txs tx IsUndoing → IsCauseAtUndo reason txs tx → ⊥
 undoing_is_undoing Refusal.NoSuchTx txs tx undoing none = let both : Some undoing.one ≡ None = sym undoing.there ∙ none in cc

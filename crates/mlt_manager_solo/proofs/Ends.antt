@@ -1,25 +1,15 @@
 -- How the transaction that alone is open ends
 use Rattle.std.proofs.Common.{◌≡◌, true, false, Ok, Err, ℕ, refl, subst}
-use Rattle.mlt_manager_solo.proofs.Names.{Refusal, Answer, Event, Told, AnswersAbort, HasBegunAbort, HasClosed, IsByAnother, IsIdle, IsUndoing, counted, UndoingLeavesBase, ManagerFields, HasOneIdle, HasOneUndoing, IsAtRest, IsTakenBack}
-use Rattle.mlt_manager.specs.{Answers.AnswersCommit, Undoings.AnswersWholeUndo}
+use Rattle.mlt_manager_solo.proofs.Names.{Refusal, Answer, HasBegunAbort, HasClosed, IsByAnother, IsIdle, IsUndoing, counted, UndoingLeavesBase, ManagerFields, HasOneIdle, HasOneUndoing, IsAtRest, IsTakenBack}
+use Rattle.mlt_manager.specs.Undoings.{AnswersWholeUndo}
 use Rattle.mlt_manager_solo.proofs.Backs.{abort_begins, aborted_rests, back_commits_nothing, closed_commits_none, closed_rests, undoing_is_undoing, waits_for_nobody}
-use Rattle.mlt_manager_solo.proofs.{Runs.run_one, Scripts.counted_one, Scripts.none_committed, Wholes.idle_is_idle}
+use Rattle.mlt_manager_solo.proofs.Scripts.{counted_one, none_committed}
 
-module _ {P : Type 0} (bits_of : P → ℕ → ℕ) (old new : ManagerFields P) (tx : ℕ) (one : HasOneIdle bits_of old tx) where
-  -- **Its commit is not refused,** nor is its abort
-  pub commit_is_told : (reason : Refusal) → AnswersCommit (counted old) new tx (Err reason) → ⊥
-  commit_is_told reason a = idle_is_idle reason old.txs tx one.one a.0
-
-  pub abort_is_told : (reason : Refusal) → AnswersAbort (counted old) new tx (Err reason) → ⊥
-  abort_is_told reason a = idle_is_idle reason old.txs tx one.one a.0
-
-  -- **It had nothing to take back,** and is closed at once
-  pub closes_it : HasClosed (counted old) new tx → IsAtRest bits_of new × IsTakenBack bits_of old new tx
-  closes_it c =
-      let counts = counted_one bits_of IsIdle old tx one in (
-        closed_rests bits_of (counted old) new tx counts c,
-        record { closed = true; run = run_one bits_of old new (Event.Abort tx) (Told.Aborting true) c; keeps = closed_commits_none bits_of (counted old) new tx counts c },
-      )
+-- **It had nothing to take back,** and is closed at once
+pub closes_it : {P : Type 0} (bits_of : P → ℕ → ℕ) (old new : ManagerFields P) (tx : ℕ) → HasOneIdle bits_of old tx → HasClosed (counted old) new tx → IsAtRest bits_of new × IsTakenBack bits_of old new tx
+closes_it bits_of old new tx one c =
+    let counts = counted_one bits_of IsIdle old tx one in
+    (closed_rests bits_of (counted old) new tx counts c, record { closed = true; run = (new, c, refl); keeps = closed_commits_none bits_of (counted old) new tx counts c })
 
 -- **Its abort begins,** and comes to its end
 module _ {P : Type 0} (bits_of : P → ℕ → ℕ) (old mid new : ManagerFields P) (tx : ℕ) (one : HasOneIdle bits_of old tx) (begins : HasBegunAbort (counted old) mid tx) where

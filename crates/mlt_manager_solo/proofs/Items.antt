@@ -2,8 +2,8 @@
 use Rattle.std.proofs.Common.{◌≡◌, ◌≢◌, ℕ, zero, suc, replicate, List, [], ◌∷◌, ◌++◌, true, false, is_some, Some, refl, sym, ap, subst, ◌∙◌, append_assoc}
 use Rattle.std.specs.FinMap as map
 use Rattle.std.specs.FinSet as set
-use Rattle.mlt_manager_solo.proofs.Names.{Base, Step, empty_base, ObjOp, ObjReply, Entry, IsHistory, no_lists, IsSerialBase, follow_push, TraceItem, entries_of, entries_of-append, Transaction, HasBase, IsManager, ManagerFields, lists_by, IsAtRest}
-use Rattle.mlt_order.{specs.Histories.Lists, specs.Histories.after_entry, specs.Histories.lists_of, specs.Histories.Entry.Committed, specs.Histories.Stage.Running, proofs.Growing.after_entries-push, proofs.RunLemmas.serial_to_one}
+use Rattle.mlt_manager_solo.proofs.Names.{Base, Step, Transcript, empty_base, ObjOp, ObjReply, Entry, IsHistory, no_lists, follow_push, TraceItem, entries_of, entries_of-append, Transaction, HasBase, IsManager, ManagerFields, lists_by, IsAtRest, KeepsCommitted}
+use Rattle.mlt_order.{specs.Histories.Lists, specs.Histories.lists_of, specs.Histories.Entry.Committed, specs.Histories.Stage.Running, specs.Runs.IsSerialBase, proofs.Growing.after_entries-push, proofs.RunLemmas.serial_to_one}
 use Rattle.mlt_trace.specs.Entries.{entry_of}
 use Rattle.mlt_trace_check.proofs.Histories.{nothing_of_others, serializable}
 use Rattle.mlt_object_conflicts.proofs.BaseOrder.{base_functional}
@@ -13,9 +13,6 @@ use Rattle.mlt_manager.proofs.Stepped.{same_base}
 abbrev pub committed_by : List TraceItem → List (List (ObjOp × ObjReply))
 committed_by items = (lists_of (entries_of items)).committed
 
-lists_push : (items : List TraceItem) (item : TraceItem) → lists_of (entries_of (items ++ item ∷ [])) ≡ after_entry (lists_of (entries_of items)) (entry_of item)
-lists_push items item = ap lists_of (entries_of-append items (item ∷ [])) ∙ after_entries-push (entries_of items) no_lists (entry_of item)
-
 -- no item but a commit changes what is committed
 abbrev pub CommitsNone : TraceItem → Type 0
 CommitsNone (TraceItem.Commit tx number) = ⊥
@@ -23,7 +20,8 @@ CommitsNone other = Unit {0}
 
 pub commits_none : (items : List TraceItem) (item : TraceItem) → CommitsNone item → committed_by (items ++ item ∷ []) ≡ committed_by items
 commits_none items (TraceItem.Commit tx number) none = absurd none
-commits_none items other none = ap (λ (l : Lists (ObjOp × ObjReply)). l.committed) (lists_push items other)
+commits_none items other none =
+    ap (λ (l : Lists (ObjOp × ObjReply)). l.committed) (ap lists_of (entries_of-append items (other ∷ [])) ∙ after_entries-push (entries_of items) no_lists (entry_of other))
 
 -- nor do operations that are taken back, up to the abort
 pub backs_commit_none : (count : ℕ) (items : List TraceItem) (tx : ℕ) → committed_by (items ++ (replicate count (TraceItem.Back tx) ++ TraceItem.Abort tx ∷ [])) ≡ committed_by items
@@ -39,24 +37,21 @@ module _ {P : Type 0} (bits_of : P → ℕ → ℕ) (m : ManagerFields P) (rest 
       let outside : set.contains m.active i ≡ false = rest.manager.sound.opened i ∙ ap is_some (rest.nobody i) in
       cc
 
-  nothing_open : (i : ℕ) → (lists_by m).transcripts i ≡ []
-  nothing_open i = nothing_of_others m.shared.history.items rest.manager.base rest.manager.sound.match.records.history i (not_running i)
-
   -- the base that is left is that of the committed transcripts
   left_is_serial : IsSerialBase Step empty_base (lists_by m).committed rest.manager.base
   left_is_serial =
-      let s = serializable m.shared.history.items rest.manager.base rest.manager.sound.match.records.history in
-      let same : s.0 ≡ rest.manager.base = s.2 [] (λ i. sym (nothing_open i)) in
+      let history = rest.manager.sound.match.records.history in
+      let s = serializable m.shared.history.items rest.manager.base history in
+      let same : s.0 ≡ rest.manager.base = s.2 [] (λ i. sym (nothing_of_others m.shared.history.items rest.manager.base history i (not_running i))) in
       subst (IsSerialBase Step empty_base (lists_by m).committed) same s.1
 
-  -- **At rest, the base is that of the committed transcripts, run one after another.**
-  pub serial_at_rest : (base : Base) → HasBase m base → IsSerialBase Step empty_base (lists_by m).committed base
-  serial_at_rest base leads = subst (IsSerialBase Step empty_base (lists_by m).committed) (sym (same_base bits_of m rest.manager 0 base leads)) left_is_serial
-
-  pub base_at_rest : (base : Base) → IsSerialBase Step empty_base (lists_by m).committed base → HasBase m base
-  base_at_rest base serial =
-      let same : base ≡ rest.manager.base = serial_to_one Step base_functional (lists_by m).committed empty_base base rest.manager.base serial left_is_serial in
-      subst (HasBase m) (sym same) rest.manager.sound.match.records.history
+-- **At rest, where no more is committed, the base is what it was,** that of the committed transcripts, run one after another.
+pub back_to_base : {P : Type 0} (bits_of : P → ℕ → ℕ) (old new : ManagerFields P) (base : Base) → IsAtRest bits_of old → IsAtRest bits_of new → KeepsCommitted old new → HasBase old base → HasBase new base
+back_to_base bits_of old new base before after keeps leads =
+    let was = subst (IsSerialBase Step empty_base (lists_by old).committed) (sym (same_base bits_of old before.manager 0 base leads)) (left_is_serial bits_of old before) in
+    let is = subst (λ (ts : List Transcript). IsSerialBase Step empty_base ts base) (sym keeps.0) was in
+    let same : base ≡ after.manager.base = serial_to_one Step base_functional (lists_by new).committed empty_base base after.manager.base is (left_is_serial bits_of new after) in
+    subst (HasBase new) (sym same) after.manager.sound.match.records.history
 
 -- a commit of an open transaction leaves the base
 pub commit_keeps_base : {P : Type 0} (bits_of : P → ℕ → ℕ) (m : ManagerFields P) (h : IsManager bits_of m) (tx number : ℕ) (one : Transaction) → map.get m.txs tx ≡ Some one

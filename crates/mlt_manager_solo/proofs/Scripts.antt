@@ -2,14 +2,14 @@
 use Rattle.std.proofs.Common.{◌≡◌, ◌≤◌, ◌+◌, ℕ, List, [], ◌∷◌, ◌++◌, Ok, Err, inl, inr, refl, sym, ap, subst, ◌∙◌, arith, nat_cmp}
 use Rattle.std.specs.Cmp.{nat_cmp_total}
 use Rattle.std.specs.FinMap as map
-use Rattle.mlt_manager_solo.proofs.Names.{Refusal, Base, Step, Transcript, empty_base, ObjOp, ObjReply, Entry, IsHistory, no_lists, IsSerialBase, follow_push, Ending, ScriptForm, Committed, Aborted, Refused, TraceItem, entries_of, entries_of-append, Answer, Event, Told, Transaction, inserted_elsewhere, inserted_here, AnswersCall, IsByAnother, IsIdle, counted, HasBase, Meets, IsManager, ManagerFields, lists_by, HasRun, HasOneIdle, IsAtRest, KeepsCommitted, CanMark, HasAsked, HasRunScript, IsRefused, IsTakenBack, done_by, At, HasOne, HasCommitted, begun_by}
+use Rattle.mlt_manager_solo.proofs.Names.{Refusal, Base, Step, Transcript, empty_base, ObjOp, ObjReply, Entry, IsHistory, no_lists, follow_push, Ending, ScriptForm, Committed, Aborted, Refused, TraceItem, entries_of, entries_of-append, Answer, Event, Told, Transaction, inserted_elsewhere, inserted_here, AnswersCall, IsIdle, counted, HasBase, Meets, IsManager, ManagerFields, lists_by, HasOneIdle, IsAtRest, KeepsCommitted, CanMark, HasAsked, HasRunScript, IsRefused, IsTakenBack, done_by, At, HasOne, HasCommitted, begun_by}
 use Rattle.mlt_object_kinds.specs.Bases.{TranscriptLeads}
 use Rattle.mlt_order.specs.Histories.{Entry.Begun, Stage.Fresh}
 use Rattle.mlt_script_serial.{specs.declared.cursor.Next.Next, specs.Follows.Questions.Asks, specs.Follows.Questions.Ends, proofs.Transcripts.is_partial}
 use Rattle.mlt_script_serial.specs.Follows.{Follows, IsNext, IsPartial, Questions, Reaches, questions_of_script}
 use Rattle.mlt_manager.{specs.Answers.HasBegun, specs.Answers.IsCauseAtBegin, proofs.Ended.begun_keeps, proofs.Keeping.counted_keeps, proofs.Kept.whole_kept}
-use Rattle.mlt_manager_solo.{specs.Events.Exchange, specs.Events.taken_back, proofs.Backs.committed_base, proofs.Items.base_at_rest, proofs.Items.commits_none, proofs.Items.committed_by, proofs.Items.serial_at_rest, proofs.Runs.run_on, proofs.Runs.run_one, proofs.Steps.still_one}
-use Rattle.mlt_manager_solo.proofs.Wholes.{call_refused, run_beside, run_done_idle, run_refused_idle, stands_behind_nobody}
+use Rattle.mlt_manager_solo.{specs.Events.Exchange, specs.Events.taken_back, proofs.Items.back_to_base, proofs.Items.commit_keeps_base, proofs.Items.commits_none, proofs.Items.committed_by, proofs.Runs.run_on, proofs.Steps.still_one}
+use Rattle.mlt_manager_solo.proofs.Wholes.{call_refused, run_beside, run_done_idle, run_refused_idle}
 
 module _ {P : Type 0} (bits_of : P → ℕ → ℕ) where
   -- one more event is counted, and nothing else
@@ -31,10 +31,9 @@ module _ {P : Type 0} (bits_of : P → ℕ → ℕ) where
         → HasOneIdle bits_of new tx × HasAsked bits_of old new ((op, reply) ∷ []) (done_by tx ((op, reply) ∷ []))
     asked_done reply r =
         let beside = run_beside bits_of (counted old) new tx op (Answer.Done reply) r.0 in (
-          still_one bits_of (counted old) new tx (counted_one IsIdle old tx one) (whole_kept bits_of (counted old) new manager_now tx op (Ok (Answer.Done reply)) r.0)
-              (run_done_idle bits_of (counted old) new tx op reply r.0) beside,
+          still_one _ _ _ _ (counted_one IsIdle old tx one) (whole_kept bits_of (counted old) new manager_now tx op (Ok (Answer.Done reply)) r.0) (run_done_idle _ _ _ _ _ _ r.0) beside,
           record {
-            run = run_one bits_of old new (Event.Whole tx op) (Told.Answered (Answer.Done reply)) r;
+            run = (new, r, refl);
             leads = λ base leads. let next = r.1.leads base leads in (next.0, (next.0, next.1, refl), next.2);
             keeps = (ap committed_by r.1.items ∙ commits_none old.shared.history.items (TraceItem.Op tx (op, reply)) tt, beside.commits);
           },
@@ -54,16 +53,6 @@ module _ {P : Type 0} (bits_of : P → ℕ → ℕ) where
           still_one bits_of (counted old) new tx (counted_one IsIdle old tx one) (whole_kept bits_of (counted old) new manager_now tx op (Err reason) a) r.0 r.2,
           record { said = Told.Refused reason; refused = inl refl; meets = a; keeps = (ap committed_by r.1, r.2.commits); can = r.3 },
         )
-
-    -- **It waits for nobody, and nobody blocks it.**
-    pub asked_alone : (told : Answer) → HasRun bits_of (counted old) new tx op told → IsByAnother told new.txs tx → ((reply : ObjReply) → told ≡ Answer.Done reply → ⊥)
-        → ((reason : Refusal) → told ≡ Answer.Refused reason → ⊥) → ⊥
-    asked_alone told r another not_done not_refused =
-        stands_behind_nobody bits_of (counted old) new tx told (counted_one IsIdle old tx one) (run_beside bits_of (counted old) new tx op told r) another not_done not_refused r.runs.steps.stops
-
-  -- nothing was asked yet
-  pub asked_nothing : (m : ManagerFields P) (tx : ℕ) → HasAsked bits_of m m [] (done_by tx [])
-  asked_nothing m tx = record { run = refl; leads = λ base leads. (base, refl, leads); keeps = (refl, refl) }
 
   leads_on : (t u : Transcript) (b m n : Base) → TranscriptLeads b t m → TranscriptLeads m u n → TranscriptLeads b (t ++ u) n
   leads_on [] u b m n same later = subst (λ (x : Base). TranscriptLeads x u n) (sym same) later
@@ -93,24 +82,19 @@ module _ {P : Type 0} (bits_of : P → ℕ → ℕ) where
         let done = asked.leads base leads in
         let commits : new.commits ≡ number = ap (λ (n : ManagerFields P). n.commits) c.rest in
         let count : new.commits ≡ old.commits + 1 = commits ∙ c.next ∙ ap (λ (n : ℕ). n + 1) asked.keeps.1 in
-        (done.0, committed_base bits_of (counted m) new tx (counted_one IsIdle m tx one) number c done.0 done.2, (follows, done.1, count, sym commits));
+        (done.0, commit_keeps_base bits_of (counted m) (counted_one IsIdle m tx one).manager tx number c.ends.one c.ends.there done.0 done.2 new c.ends.items, (follows, done.1, count, sym commits));
     exchanges = begun_by tx t ++ (Event.Commit tx, Told.Committed number) ∷ [];
     told = refl;
-    run = run_on bits_of old m new (begun_by tx t) _ asked.run (run_one bits_of m new (Event.Commit tx) (Told.Committed number) c);
+    run = run_on bits_of old m new (begun_by tx t) _ asked.run (new, c, refl);
     can = tt;
   }
-
-  -- where no more is committed, the base is what it was
-  back_to_base : (old new : ManagerFields P) (base : Base) → IsAtRest bits_of old → IsAtRest bits_of new → KeepsCommitted old new → HasBase old base → HasBase new base
-  back_to_base old new base before after keeps leads =
-      base_at_rest bits_of new after base (subst (λ (ts : List Transcript). IsSerialBase Step empty_base ts base) (sym keeps.0) (serial_at_rest bits_of old before base leads))
 
   pub ended_aborted : (s : ScriptForm) (old m new : ManagerFields P) (tx : ℕ) (t : Transcript) → IsAtRest bits_of old → Follows s t Ending.Abort → HasAsked bits_of old m t (begun_by tx t) → IsTakenBack bits_of m new tx
       → IsAtRest bits_of new → HasRunScript bits_of s old new tx t Aborted
   ended_aborted s old m new tx t before follows asked back after =
       let keeps = none_committed old m new asked.keeps back.keeps in
       record {
-        leads = λ base leads. let done = asked.leads base leads in (base, back_to_base old new base before after keeps leads, (follows, (done.0, done.1), refl, keeps.1));
+        leads = λ base leads. let done = asked.leads base leads in (base, back_to_base bits_of old new base before after keeps leads, (follows, (done.0, done.1), refl, keeps.1));
         exchanges = begun_by tx t ++ taken_back tx back.closed;
         told = (back.closed, refl);
         run = run_on bits_of old m new (begun_by tx t) _ asked.run back.run;
@@ -123,7 +107,7 @@ module _ {P : Type 0} (bits_of : P → ℕ → ℕ) where
   ended_refused s q old m m' new tx t op reason before reaches is asked refused back after =
       let keeps = none_committed old m' new (none_committed old m m' asked.keeps refused.keeps) back.keeps in
       record {
-        leads = λ base leads. let done = asked.leads base leads in (base, back_to_base old new base before after keeps leads, (is_partial s t q reaches, (done.0, done.1), refl, keeps.1));
+        leads = λ base leads. let done = asked.leads base leads in (base, back_to_base bits_of old new base before after keeps leads, (is_partial s t q reaches, (done.0, done.1), refl, keeps.1));
         exchanges = begun_by tx t ++ ((Event.Whole tx op, refused.said) ∷ taken_back tx back.closed);
         told = inr (record {
           last = (Event.Whole tx op, refused.said) ∷ [];
@@ -145,18 +129,16 @@ module _ {P : Type 0} (bits_of : P → ℕ → ℕ) where
       limit = subst (λ (n : ℕ). 1 ≤ n) (sym (ap (λ (n : ManagerFields P). n.max_open) begun.rest)) rest.limit;
     }
 
-    begun_committed : KeepsCommitted old m
-    begun_committed = (ap committed_by begun.items ∙ commits_none old.shared.history.items (TraceItem.Begin tx) tt, ap (λ (n : ManagerFields P). n.commits) begun.rest)
-
-    begun_base : (base : Base) → HasBase old base → HasBase m base
-    begun_base base leads =
-        let fresh : (lists_by old).stage tx ≡ Fresh = rest.manager.sound.match.records.fresh tx (omega (arith, begun.number)) in
-        let grown = follow_push Step (entries_of old.shared.history.items) no_lists empty_base base base (Begun tx) leads (fresh, refl) in
-        let same : entries_of m.shared.history.items ≡ entries_of old.shared.history.items ++ Begun tx ∷ [] = ap entries_of begun.items ∙ entries_of-append old.shared.history.items (TraceItem.Begin tx ∷ []) in
-        subst (λ (es : List (Entry (ObjOp × ObjReply))). IsHistory Step empty_base es base) (sym same) grown
-
     pub begun_asked : HasAsked bits_of old m [] (begun_by tx [])
-    begun_asked = record { run = run_one bits_of old m Event.Begin (Told.Begun tx) begun; leads = λ base leads. (base, refl, begun_base base leads); keeps = begun_committed }
+    begun_asked = record {
+      run = (m, begun, refl);
+      leads = λ base leads.
+          let fresh : (lists_by old).stage tx ≡ Fresh = rest.manager.sound.match.records.fresh tx (omega (arith, begun.number)) in
+          let grown = follow_push Step (entries_of old.shared.history.items) no_lists empty_base base base (Begun tx) leads (fresh, refl) in
+          let same : entries_of m.shared.history.items ≡ entries_of old.shared.history.items ++ Begun tx ∷ [] = ap entries_of begun.items ∙ entries_of-append old.shared.history.items (TraceItem.Begin tx ∷ []) in
+          (base, refl, subst (λ (es : List (Entry (ObjOp × ObjReply))). IsHistory Step empty_base es base) (sym same) grown);
+      keeps = (ap committed_by begun.items ∙ commits_none old.shared.history.items (TraceItem.Begin tx) tt, ap (λ (n : ManagerFields P). n.commits) begun.rest);
+    }
 
   -- why no transaction begins where none is open
   begin_can_mark : (m : ManagerFields P) (reason : Refusal) → IsAtRest bits_of m → IsCauseAtBegin reason m → CanMark reason
@@ -169,19 +151,19 @@ module _ {P : Type 0} (bits_of : P → ℕ → ℕ) where
   begin_can_mark m other rest none = absurd none
 
   -- **No transaction begins.**
-  pub not_begun_rests : (old new : ManagerFields P) (reason : Refusal) → IsAtRest bits_of old → IsCauseAtBegin reason (counted old) × (new ≡ counted old) → IsAtRest bits_of new
-  not_begun_rests old new reason rest a = subst (IsAtRest bits_of) (sym a.1) (counted_rest old rest)
-
-  pub run_not_begun : (s : ScriptForm) (old new : ManagerFields P) (t : Transcript) (reason : Refusal) → t ≡ [] → IsAtRest bits_of old → IsCauseAtBegin reason (counted old) × (new ≡ counted old)
-      → HasRunScript bits_of s old new 0 t (Refused reason)
-  run_not_begun s old new t reason nothing rest a = record {
-    leads = λ base leads.
-        let here : HasBase new base = subst (λ (n : ManagerFields P). HasBase n base) (sym a.1) leads in
-        let partial : IsPartial s t = subst (IsPartial s) (sym nothing) (is_partial s [] (questions_of_script s) refl) in
-        let runs : TranscriptLeads base t base = subst (λ (u : Transcript). TranscriptLeads base u base) (sym nothing) refl in
-        (base, here, (partial, (base, runs), refl, ap (λ (n : ManagerFields P). n.commits) a.1));
-    exchanges = (Event.Begin, Told.Refused reason) ∷ [];
-    told = inl (record { nobody = refl; nothing = nothing; events = refl });
-    run = run_one bits_of old new Event.Begin (Told.Refused reason) a;
-    can = begin_can_mark (counted old) reason (counted_rest old rest) a.0;
-  }
+  pub run_not_begun : (s : ScriptForm) (old new : ManagerFields P) (tx : ℕ) (t : Transcript) (reason : Refusal) → tx ≡ 0 → t ≡ [] → IsAtRest bits_of old
+      → IsCauseAtBegin reason (counted old) × (new ≡ counted old) → IsAtRest bits_of new × HasRunScript bits_of s old new tx t (Refused reason)
+  run_not_begun s old new tx t reason nobody nothing rest a = (
+    subst (IsAtRest bits_of) (sym a.1) (counted_rest old rest),
+    record {
+      leads = λ base leads.
+          let here : HasBase new base = subst (λ (n : ManagerFields P). HasBase n base) (sym a.1) leads in
+          let partial : IsPartial s t = subst (IsPartial s) (sym nothing) (is_partial s [] (questions_of_script s) refl) in
+          let runs : TranscriptLeads base t base = subst (λ (u : Transcript). TranscriptLeads base u base) (sym nothing) refl in
+          (base, here, (partial, (base, runs), refl, ap (λ (n : ManagerFields P). n.commits) a.1));
+      exchanges = (Event.Begin, Told.Refused reason) ∷ [];
+      told = inl (record { nobody = nobody; nothing = nothing; events = refl });
+      run = (new, a, refl);
+      can = begin_can_mark (counted old) reason (counted_rest old rest) a.0;
+    },
+  )

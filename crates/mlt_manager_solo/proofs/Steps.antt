@@ -7,7 +7,7 @@ use Rattle.mlt_hash_access.specs.LocalStates.{LocalState}
 use Rattle.mlt_hash.specs.Walks.{WalkContext, context_by}
 use Rattle.mlt_object_base.specs.declared.request.Request.{Request}
 use Rattle.mlt_tx_two_records.specs.declared.two_records.{TwoRecordWalk.TheVariants.Wide, WideStage.WideStage}
-use Rattle.mlt_tx_operation.specs.{declared.access_path.AccessPath.AccessPath, declared.access_path.AccessPath.TheVariants.Two, Answers.CauseBy, Answers.IsCauseOf, Operating.OperationFields}
+use Rattle.mlt_tx_operation.specs.{declared.access_path.AccessPath.AccessPath, declared.access_path.AccessPath.TheVariants.Two, Answers.CauseBy}
 use Rattle.mlt_tx.specs.{declared.shared.SharedState.SharedState, Transactions.TellsAt, Tables.ChangesOne}
 use Rattle.mlt_manager.specs.{Answers.ChangesOpen, Answers.HasStepped, Answers.txs_after, Chains.StepsBy}
 
@@ -45,8 +45,8 @@ beside_same old new tx same = record {
   commits = ap (λ (n : ManagerFields _). n.commits) same;
 }
 
-pub beside_both : {P : Type 0} (a b c : ManagerFields P) (tx : ℕ) → StaysBeside a b tx → StaysBeside b c tx → StaysBeside a c tx
-beside_both a b c tx one two = record { others = λ i ne. two.others i ne ∙ one.others i ne; limit = two.limit ∙ one.limit; commits = two.commits ∙ one.commits }
+pub beside_both : {P : Type 0} {a b c : ManagerFields P} {tx : ℕ} → StaysBeside a b tx → StaysBeside b c tx → StaysBeside a c tx
+beside_both one two = record { others = λ i ne. two.others i ne ∙ one.others i ne; limit = two.limit ∙ one.limit; commits = two.commits ∙ one.commits }
 
 -- where one transaction is changed
 pub changed_beside : {P : Type 0} (m m' : ManagerFields P) (tx : ℕ) → ChangesOne tx m.txs m'.txs → ChangesOpen m m' → StaysBeside m m' tx
@@ -71,9 +71,6 @@ can_mark_by Refusal.OutOfMemory access_path context old mid request cause = tt
 can_mark_by other (Two (Wide WideStage.Size walk)) context old mid request (since, put, none) = absurd none
 can_mark_by other access_path context old mid request none = absurd none
 
-step_can_mark : (reason : Refusal) (context : WalkContext) (old mid : LocalState) (before : OperationFields) → IsCauseOf reason context old mid before → CanMark reason
-step_can_mark reason context old mid before cause = can_mark_by reason before.access_path context old mid before.request cause
-
 -- an operation that is done or refused leaves its transaction at nothing
 done_at : (a : At) (context : WalkContext) (before after : Transaction) (old new : SharedState) (reply : ObjReply) → TellsAt a context before after old new (Answer.Done reply) → IsIdle after.at
 done_at At.Idle context before after old new reply none = absurd none
@@ -82,7 +79,7 @@ done_at (At.Undoing inverting) context before after old new reply s = absurd s.t
 
 refused_at : (a : At) (context : WalkContext) (before after : Transaction) (old new : SharedState) (reason : Refusal) → TellsAt a context before after old new (Answer.Refused reason) → IsIdle after.at × CanMark reason
 refused_at At.Idle context before after old new reason none = absurd none
-refused_at (At.Pending o) context before after old new reason s = (subst IsIdle (sym s.now_at) tt, step_can_mark reason _ _ _ o s.tells.tells.cause)
+refused_at (At.Pending o) context before after old new reason s = (subst IsIdle (sym s.now_at) tt, can_mark_by reason o.access_path _ _ _ o.request s.tells.tells.cause)
 refused_at (At.Undoing inverting) context before after old new reason s = absurd s.tells
 
 -- one step
@@ -117,4 +114,4 @@ pub steps_beside : {P : Type 0} (bits_of : P → ℕ → ℕ) (GoesOn : Answer �
     → StaysBeside old last tx
 steps_beside bits_of GoesOn old last tx [] same = beside_same old last tx same
 steps_beside bits_of GoesOn old last tx (one ∷ more) (first, on, later) =
-    beside_both old one.0 last tx (step_beside bits_of old one.0 tx one.1 first) (steps_beside bits_of GoesOn one.0 last tx more later)
+    beside_both (step_beside bits_of old one.0 tx one.1 first) (steps_beside bits_of GoesOn one.0 last tx more later)

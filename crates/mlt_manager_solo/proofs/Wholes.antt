@@ -1,9 +1,9 @@
 -- A whole operation of the transaction that alone is open
 use Rattle.std.proofs.Common.{◌≡◌, ℕ, Option, None, Some, IsSome, Err, refl, sym, ap, subst, ◌∙◌}
 use Rattle.std.specs.FinMap as map
-use Rattle.mlt_manager_solo.proofs.Names.{Refusal, ObjOp, ObjReply, Answer, At, Transaction, Table, AnswersCall, IsByAnother, IsIdle, IsOpenAt, IsUndoing, ManagerFields, HasRun, one_there, HasOneIdle, CanMark}
+use Rattle.mlt_manager_solo.proofs.Names.{Refusal, ObjOp, ObjReply, Answer, At, Transaction, Table, AnswersCall, IsByAnother, IsIdle, IsOpenAt, IsUndoing, ManagerFields, one_there, HasOneIdle, CanMark}
 use Rattle.mlt_tx.specs.Transactions.{IsPending}
-use Rattle.mlt_manager.specs.{Answers.IsNotIdle, Wholes.DropsIfItStands, Wholes.LetsGoOn, Wholes.Stops}
+use Rattle.mlt_manager.specs.{Answers.IsNotIdle, Wholes.DropsIfItStands, Wholes.HasRun, Wholes.LetsGoOn, Wholes.Stops}
 use Rattle.mlt_manager_solo.proofs.Steps.{StaysBeside, beside_both, beside_same, changed_beside, changed_here, done_idles, refused_idles, step_beside, steps_beside}
 
 idle_or : (IsOther : At → Type 0) → (IsOther At.Idle → ⊥) → (a : At) → IsIdle a → IsOther a → ⊥
@@ -20,12 +20,6 @@ idle_is_idle Refusal.Running txs tx idle pending =
 idle_is_idle other txs tx idle none = none
 
 module _ {P : Type 0} (bits_of : P → ℕ → ℕ) (old new : ManagerFields P) (tx : ℕ) (op : ObjOp) (told : Answer) (r : HasRun bits_of old new tx op told) where
-  stopped_beside : StaysBeside old r.runs.stopped tx
-  stopped_beside =
-      let s = r.runs.steps in
-      beside_both old r.called r.runs.stopped tx (changed_beside old r.called tx r.calls.calls.changes r.calls.rest)
-      (beside_both r.called r.runs.steps.before r.runs.stopped tx (steps_beside bits_of LetsGoOn r.called s.before tx s.steps s.goes) (step_beside bits_of s.before r.runs.stopped tx told s.ends))
-
   dropped_beside : (t : Answer) → DropsIfItStands t r.runs.stopped new tx → StaysBeside r.runs.stopped new tx
   dropped_beside (Answer.Waiting page by) d = changed_beside r.runs.stopped new tx d.cancels.changes d.rest
   dropped_beside (Answer.Blocked by) d = changed_beside r.runs.stopped new tx d.cancels.changes d.rest
@@ -33,7 +27,10 @@ module _ {P : Type 0} (bits_of : P → ℕ → ℕ) (old new : ManagerFields P) 
 
   -- **Whatever it is told, nobody else has changed.**
   pub run_beside : StaysBeside old new tx
-  run_beside = beside_both old r.runs.stopped new tx stopped_beside (dropped_beside told r.runs.drops)
+  run_beside =
+      let s = r.runs.steps in
+      beside_both (changed_beside old r.called tx r.calls.calls.changes r.calls.rest)
+      (beside_both (steps_beside bits_of LetsGoOn r.called s.before tx s.steps s.goes) (beside_both (step_beside bits_of s.before r.runs.stopped tx told s.ends) (dropped_beside told r.runs.drops)))
 
 -- **An operation that is done or refused leaves its transaction at nothing.**
 pub run_done_idle : {P : Type 0} (bits_of : P → ℕ → ℕ) (old new : ManagerFields P) (tx : ℕ) (op : ObjOp) (reply : ObjReply) → HasRun bits_of old new tx op (Answer.Done reply) → IsOpenAt new.txs tx IsIdle
@@ -46,10 +43,6 @@ run_refused_idle bits_of old new tx op reason r =
     let idle = refused_idles bits_of r.runs.steps.before r.runs.stopped tx reason r.runs.steps.ends in
     (subst (λ (n : ManagerFields _). IsOpenAt n.txs tx IsIdle) (sym r.runs.drops) idle.0, idle.1)
 
-there_or_not : (o : Option Transaction) → o ≡ None → IsSome o → ⊥
-there_or_not None is there = cc
-there_or_not (Some t) is there = cc
-
 -- **It stands behind nobody.**
 pub stands_behind_nobody : {P : Type 0} (bits_of : P → ℕ → ℕ) (old new : ManagerFields P) (tx : ℕ) (told : Answer) → HasOneIdle bits_of old tx → StaysBeside old new tx → IsByAnother told new.txs tx
     → ((reply : ObjReply) → told ≡ Answer.Done reply → ⊥) → ((reason : Refusal) → told ≡ Answer.Refused reason → ⊥) → Stops told → ⊥
@@ -58,7 +51,7 @@ stands_behind_nobody bits_of old new tx (Answer.Waiting page by) one beside anot
     let both : Some another.1.one ≡ None = sym another.1.there ∙ none in cc
 stands_behind_nobody bits_of old new tx (Answer.Blocked by) one beside another not_done not_refused stops =
     let none : map.get new.txs by ≡ None = beside.others by another.0 ∙ one.alone by another.0 in
-    there_or_not (map.get new.txs by) none another.1
+    cc (subst (λ (o : Option Transaction). IsSome o) none another.1)
 stands_behind_nobody bits_of old new tx (Answer.Done reply) one beside another not_done not_refused stops = not_done reply refl
 stands_behind_nobody bits_of old new tx (Answer.Refused reason) one beside another not_done not_refused stops = not_refused reason refl
 stands_behind_nobody bits_of old new tx other one beside another not_done not_refused stops = stops

@@ -7,16 +7,12 @@ use Rattle.mlt_manager_solo.proofs.engine.solo.Goals as goal
 
 pub run_all-ran-requires : goal.run_all-ran-requires
 run_all-ran-requires g c =
-    let manager = c.in_ok-manager.manager in
     record { rest = new_rests g.P.Pseudo.bits_of c.in_ok-manager.manager c.args.limits c.args.pseudo c.in_ok-manager.ensures.opening (g.met.P.Pseudo.has_64_bits c.in_ok-manager.manager.root.pseudo) }
 
 pub returns-in-Ok-written-clause-text : goal.returns-in-Ok-written-clause-text
 returns-in-Ok-written-clause-text g c =
-    let input = c.in_ok-input.input.items in
-    let outcomes = c.in-Ok.outcomes in
-    let text = solo_text g.P.Pseudo.bits_of c.in_ok-manager.manager c.args.limits c.args.pseudo c.in_ok-manager.ensures.opening c.run_all-ran.new.desk.manager c.as_slice.result.now input c.as_slice-2.result.now
-    c.in_ok-scripts.scripts.items c.in-Ok.outcomes c.as_slice.ensures.value c.as_slice-2.ensures.value c.in_ok-scripts.ensures.spelled c.in-Ok.ensures.run in
-    (input, flat_map outcome_text outcomes, (c.in_ok-input.ensures.ok, text), c.in-Ok-written.ensures.ok)
+    let text = solo_text _ _ _ _ c.in_ok-manager.ensures.opening _ _ _ _ _ _ c.as_slice.ensures.value c.as_slice-2.ensures.value c.in_ok-scripts.ensures.spelled c.in-Ok.ensures.run in
+    (c.in_ok-input.input.items, flat_map outcome_text c.in-Ok.outcomes, (c.in_ok-input.ensures.ok, text), c.in-Ok-written.ensures.ok)
 
 pub returns-in_err-input-clause-failure : goal.returns-in_err-input-clause-failure
 returns-in_err-input-clause-failure g c =
@@ -37,9 +33,6 @@ returns-in-Ok-written-clause-failure g c = finished _ _ _ _ _ c.run_all-ran.new.
 
 pub returns-clause-failure : goal.returns-clause-failure
 returns-clause-failure g c =
-    let input = c.in_ok-input.input.items in
-    let outcomes = c.in-Ok.outcomes in
-    let text = solo_text g.P.Pseudo.bits_of c.in_ok-manager.manager c.args.limits c.args.pseudo c.in_ok-manager.ensures.opening c.run_all-ran.new.desk.manager c.as_slice.result.now input c.as_slice-2.result.now
-    c.in_ok-scripts.scripts.items c.in-Ok.outcomes c.as_slice.ensures.value c.as_slice-2.ensures.value c.in_ok-scripts.ensures.spelled c.in-Ok.ensures.run in
-    unfinished _ _ _ _ _ c.in-Err-written.refusal input (flat_map outcome_text outcomes) c.run_all-ran.new.desk.manager c.in_ok-input.ensures.ok text c.in-Err-written.ensures.refusal
-    (λ memory. c.in-Err-written.ensures.memory (ap Err memory)) (λ io. c.in-Err-written.ensures.io (ap Err io))
+    let text = solo_text _ _ _ _ c.in_ok-manager.ensures.opening _ _ _ _ _ _ c.as_slice.ensures.value c.as_slice-2.ensures.value c.in_ok-scripts.ensures.spelled c.in-Ok.ensures.run in
+    unfinished _ _ _ _ _ c.in-Err-written.refusal c.in_ok-input.input.items (flat_map outcome_text c.in-Ok.outcomes) c.run_all-ran.new.desk.manager c.in_ok-input.ensures.ok text
+    c.in-Err-written.ensures.refusal (λ memory. c.in-Err-written.ensures.memory (ap Err memory)) (λ io. c.in-Err-written.ensures.io (ap Err io))

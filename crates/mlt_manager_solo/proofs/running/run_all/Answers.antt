@@ -1,4 +1,4 @@
-use Rattle.std.proofs.Common.{◌≡◌, ◌+◌, ◌<◌, ◌++◌, ◌∷◌, [], ℕ, List, count_by, ◌==◌, take, get_or, set, length, sym, ap, subst, ◌∙◌, arith, take_all, length-set}
+use Rattle.std.proofs.Common.{◌≡◌, ◌+◌, ◌<◌, ◌++◌, ◌∷◌, [], ℕ, List, take, get_or, sym, ap, subst, ◌∙◌, arith, take_all, length-set}
 use Rattle.std.proofs.lemmas.List.{take_more, get_or-replicate, length-replicate}
 use Rattle.mlt_manager_solo.proofs.Names.{ScriptForm, HasRunAll}
 use Rattle.mlt_script_serial.proofs.Appends.{counted_push, next_number}
@@ -22,17 +22,14 @@ loop-script-preserved g c =
     let o = c.in_ok-outcome.outcome in
     let more : take (l.script-index + 1) scripts ≡ before ++ script ∷ [] =
     take_more scripts l.script-index script c.loop-script-test.true ∙ ap (λ (s : ScriptForm). before ++ s ∷ []) (sym c.script-item.is) in
-    let long : length l.numbers ≡ 1000 = l.invariant.long in
     let small : script.client < 1000 = omega (arith, c.client-client.ensures.client, c.client-client.ensures.limit) in
-    let counted : get_or (set l.numbers script.client (get_or l.numbers script.client 0 + 1)) script.client 0 ≡ count_by (λ p. p.client == script.client) before + 1 =
-    next_number l.numbers before script long small l.invariant.counted in
     let ran = run_at_rest g.P.Pseudo.bits_of (λ d. d.manager) script l.desk o.tx o.done o.end c.run_script.new.desk l.invariant.rest c.in_ok-outcome.ensures.run in
     rw (more, c.in_ok-push.ensures.ok) record {
       rest = ran.0;
       ran = one_more_run g.P.Pseudo.bits_of before c.args.desk.now.manager l.desk.manager c.run_script.new.desk.manager l.outcomes script o l.invariant.ran ran.1 c.in_ok-outcome.ensures.client
-          (c.in_ok-outcome.ensures.number ∙ rw c.client-client.ensures.client counted);
-      long = length-set l.numbers c.client-client.result (get_or l.numbers c.client-client.result 0 + 1) ∙ long;
-      counted = rw c.client-client.ensures.client (counted_push l.numbers before script long small l.invariant.counted);
+          (c.in_ok-outcome.ensures.number ∙ rw c.client-client.ensures.client (next_number l.numbers before script l.invariant.long small l.invariant.counted));
+      long = length-set l.numbers c.client-client.result (get_or l.numbers c.client-client.result 0 + 1) ∙ l.invariant.long;
+      counted = rw c.client-client.ensures.client (counted_push l.numbers before script l.invariant.long small l.invariant.counted);
     }
 
 pub returns-clause-run : goal.returns-clause-run

@@ -1,7 +1,13 @@
-use Rattle.std.proofs.Common.{◌++◌, IsPermutation}
+use Rattle.std.proofs.Common.{◌≡◌, ◌++◌, List, subst, sym, IfOk, IsPermutation, Result, Ok, Err, is_ok, if◌then◌else◌}
 use Rattle.std.proofs.lemmas.List.Sorted.{IsPermutation-append_comm, IsPermutation-refl}
-use Rattle.mlt_serve_session.proofs.{Joining.joined, receipts.join.Goals.then-len, receipts.join.Goals.else-len}
+use Rattle.mlt_serve_session.proofs.receipts.join.Goals.{then-len, else-len}
 use Rattle.mlt_serve_session.proofs.receipts.join.Goals as goal
+
+-- where nothing was refused both lists are there, whichever was moved
+joined : {A E : Type 0} (result : Result (Unit {0}) E) (old more left right new : List A) → IsPermutation (old ++ more) (left ++ right)
+    → new ≡ (if is_ok result then left ++ right else left) → IfOk result (λ _. IsPermutation (old ++ more) new)
+joined (Ok u) old more left right new both e = subst (IsPermutation (old ++ more)) (sym e) both
+joined (Err refused) old more left right new both e = tt
 
 pub returns : goal.returns
 returns c =

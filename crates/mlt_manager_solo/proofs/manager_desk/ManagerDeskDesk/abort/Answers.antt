@@ -1,5 +1,5 @@
 use Rattle.std.proofs.Common.{Bool, true, false, Ok, Err, refl, subst}
-use Rattle.mlt_manager_solo.proofs.Names.{AnswersAbort, counted}
+use Rattle.mlt_manager.specs.Answers.{AnswersAbort, counted}
 use Rattle.mlt_manager_solo.proofs.manager_desk.ManagerDeskDesk.abort.Goals as goal
 
 pub returns-in-Ok-false : goal.returns-in-Ok-false
