@@ -11,38 +11,31 @@ use Rattle.mlt_hash_access.specs.Views.{View}
 use Rattle.mlt_hash_form.specs.{File.FilePages, File.GivesPseudokeys, File.HasForm, Prefixes.IsExtendibleHashFile, Records.IsRecordMap, Records.live_records, declared.root.Root.Root}
 use Rattle.mlt_tx.specs.Transactions.{TellsOfTransaction}
 use Rattle.mlt_manager_invariant.proofs.Tables.{inserted_here}
-use Rattle.mlt_tx_step_counts.{specs.Counts.IsToTakeBack, specs.CountsOfTwo.TakesBackOf, specs.OwnSteps.AreOwnSteps, specs.OwnSteps.with_answer, proofs.PassesOfTwo.inverse_of_any, proofs.PassesOfTwo.pass_of}
+use Rattle.mlt_tx_step_counts.{specs.Counts.IsToTakeBack, specs.CountsOfTwo.TakesBackOf, specs.OwnSteps.AreOwnSteps, specs.OwnSteps.OwnStep, specs.OwnSteps.with_answer, proofs.PassesOfTwo.inverse_of_any, proofs.PassesOfTwo.pass_of}
 use Rattle.mlt_manager.{specs.Answers.counted, specs.Events.IsRun, specs.Openings.IsNew, proofs.Keeping.counted_keeps}
 use Rattle.mlt_manager.proofs.Kept.{abort_kept, begin_kept, call_kept, cancel_kept, commit_kept, new_kept, step_kept, whole_kept, whole_undo_kept}
 use Rattle.mlt_manager_laws.specs.Runs.{HasOwnSteps, IsCutBehind, IsReached, IsStepOrAnothers, OnlySteps, TakesOwnSteps, TakesPassInRun, answers_to, up_to_end, with_told}
-use Rattle.mlt_manager_laws.proofs.Events.{of_abort, of_begin, of_call, of_cancel, of_commit, of_step, of_whole, of_whole_undo}
-use Rattle.mlt_manager_laws.proofs.Seen.{StaysAs}
+use Rattle.mlt_manager_laws.proofs.{Events.event_leaves, Events.same_stays, Seen.StaysAs}
 
 -- **An event that meets its contract keeps what is always true.**
 pub meets_keeps : {P : Type 0} (bits_of : P → ℕ → ℕ) (m m' : ManagerFields P) (h : IsManager bits_of m) (e : Event) (t : Told) → Meets bits_of e t m m' → IsManager bits_of m'
 meets_keeps bits_of m m' h Event.Begin (Told.Begun tx) a = begin_kept bits_of m m' h (Ok tx) a
-meets_keeps bits_of m m' h Event.Begin (Told.Refused reason) a = begin_kept bits_of m m' h (Err reason) a
 meets_keeps bits_of m m' h (Event.Call tx op) Told.Called a = call_kept bits_of m m' h tx op (Ok tt) a
 meets_keeps bits_of m m' h (Event.Call tx op) (Told.Refused reason) a = call_kept bits_of m m' h tx op (Err reason) a
 meets_keeps bits_of m m' h (Event.Step tx) (Told.Answered answer) a = step_kept bits_of m m' h tx (Ok answer) a.0
-meets_keeps bits_of m m' h (Event.Step tx) (Told.Refused reason) a = step_kept bits_of m m' h tx (Err reason) a
 meets_keeps bits_of m m' h (Event.Cancel tx) Told.Cancelled a = cancel_kept bits_of m m' h tx (Ok tt) a.0
-meets_keeps bits_of m m' h (Event.Cancel tx) (Told.Refused reason) a = cancel_kept bits_of m m' h tx (Err reason) a
 meets_keeps bits_of m m' h (Event.Commit tx) (Told.Committed number) a = commit_kept bits_of m m' h tx (Ok number) a
-meets_keeps bits_of m m' h (Event.Commit tx) (Told.Refused reason) a = commit_kept bits_of m m' h tx (Err reason) a
 meets_keeps bits_of m m' h (Event.Abort tx) (Told.Aborting closed) a = abort_kept bits_of m m' h tx (Ok closed) a
-meets_keeps bits_of m m' h (Event.Abort tx) (Told.Refused reason) a = abort_kept bits_of m m' h tx (Err reason) a
 meets_keeps bits_of m m' h (Event.Whole tx op) (Told.Answered answer) a = whole_kept bits_of m m' h tx op (Ok answer) a.0
 meets_keeps bits_of m m' h (Event.Whole tx op) (Told.Refused reason) a = whole_kept bits_of m m' h tx op (Err reason) a
 meets_keeps bits_of m m' h (Event.WholeUndo tx) (Told.Answered answer) a = whole_undo_kept bits_of m m' h tx (Ok answer) a.0
-meets_keeps bits_of m m' h (Event.WholeUndo tx) (Told.Refused reason) a = whole_undo_kept bits_of m m' h tx (Err reason) a
+meets_keeps bits_of m m' h e (Told.Refused reason) a = subst (IsManager bits_of) (sym a.1) h
 meets_keeps bits_of m m' h e t none = absurd none
 
 run_keeps : {P : Type 0} (bits_of : P → ℕ → ℕ) (events : List Event) (tolds : List Told) (m m' : ManagerFields P) → IsManager bits_of m → IsRun bits_of m events tolds m' → IsManager bits_of m'
 run_keeps bits_of [] [] m m' h same = subst (IsManager bits_of) (sym same) h
-run_keeps bits_of [] (t ∷ ts) m m' h none = absurd none
-run_keeps bits_of (e ∷ es) [] m m' h none = absurd none
 run_keeps bits_of (e ∷ es) (t ∷ ts) m m' h (next, meets, rest) = run_keeps bits_of es ts next m' (meets_keeps bits_of (counted m) next (counted_keeps bits_of m h) e t meets) rest
+run_keeps bits_of es ts m m' h none = absurd none
 
 -- **So it is true of a manager to which events lead.**
 pub reached : {P : Type 0} (bits_of : P → ℕ → ℕ) (m : ManagerFields P) → ((pseudo : P) → GivesPseudokeys (bits_of pseudo)) → IsReached bits_of m → IsManager bits_of m
@@ -73,120 +66,85 @@ module _ {P : Type 0} (bits_of : P → ℕ → ℕ) (has_file : (bits : ℕ → 
 -- an answer is the last of an abort, or is told before what is told later
 is_last : (a : Answer) → (a ≡ Answer.Aborted) ⊎ (((txs : Table) (tx : ℕ) → txs_after a tx txs ≡ txs) × ((more : List Answer) → up_to_end a more ≡ with_answer a more))
 is_last Answer.Aborted = inl refl
-is_last Answer.Going = inr (λ txs tx. refl, λ more. refl)
-is_last Answer.Undone = inr (λ txs tx. refl, λ more. refl)
-is_last (Answer.Waiting page by) = inr (λ txs tx. refl, λ more. refl)
-is_last (Answer.Blocked by) = inr (λ txs tx. refl, λ more. refl)
-is_last (Answer.Done reply) = inr (λ txs tx. refl, λ more. refl)
-is_last (Answer.Refused reason) = inr (λ txs tx. refl, λ more. refl)
-
-module _ {P : Type 0} (bits_of : P → ℕ → ℕ) (root : Root P) (active : set.FinSet nat_cmp) (tx : ℕ) (m next : ManagerFields P) (h : IsManager bits_of m) (t : Transaction) (there : map.get m.txs tx ≡ Some t) (same_root : m.root ≡ root) (es : List Event) (tolds : List Told) where
-  -- what is so of the events behind this one
-  abbrev Behind : Type 0
-  Behind = (t' : Transaction) → map.get next.txs tx ≡ Some t' → next.root ≡ root → HasOwnSteps (context_by bits_of root active tx) t' (view_in t' next.shared) tx es tolds
-
-  left_aside : (again : (t' : Transaction) → map.get next.txs tx ≡ Some t' → next.root ≡ root → HasOwnSteps (context_by bits_of root active tx) t' (view_in t' next.shared) tx es tolds)
-      → (e : Event) (told : Told) → StaysAs (counted m) next tx t → with_told tx e told (answers_to tx es tolds) ≡ answers_to tx es tolds
-      → HasOwnSteps (context_by bits_of root active tx) t (view_in t m.shared) tx (e ∷ es) (told ∷ tolds)
-  left_aside again e told stays nothing =
-      let rest = again t stays.there (stays.root ∙ same_root) in
-      record {
-        steps = rest.steps;
-        own = subst (λ (v : View). AreOwnSteps (context_by bits_of root active tx) t v rest.steps) stays.sees rest.own;
-        answers = rest.answers ∙ sym nothing;
-      }
-
-  -- a step of its own
-  module _ (again : (t' : Transaction) → map.get next.txs tx ≡ Some t' → next.root ≡ root → HasOwnSteps (context_by bits_of root active tx) t' (view_in t' next.shared) tx es tolds)
-      (answer : Answer) (d : HasStepped bits_of (counted m) next tx answer) where
-    tells : TellsOfTransaction (context_by bits_of root m.active tx) t d.steps.changes.after m.shared next.shared answer
-    tells =
-        let c = d.steps.changes in
-        let same : c.before ≡ t = one_there m.txs tx c.before t c.was there in
-        let number = (h.sound.fits tx t there).number in
-        subst (λ (r : Root P). TellsOfTransaction (context_by bits_of r m.active tx) t c.after m.shared next.shared answer) same_root
-        (subst (λ (n : ℕ). TellsOfTransaction (context_by bits_of m.root m.active n) t c.after m.shared next.shared answer) number
-        (subst (λ (x : Transaction). TellsOfTransaction (context_by bits_of m.root m.active x.subtx.tx) x c.after m.shared next.shared answer) same d.steps.tells))
-
-    root_still : next.root ≡ root
-    root_still = ap (λ (n : ManagerFields P). n.root) d.rest ∙ same_root
-
-    own_step : HasOwnSteps (context_by bits_of root active tx) t (view_in t m.shared) tx (Event.Step tx ∷ es) (Told.Answered answer ∷ tolds)
-    own_step =
-        let here = cond-true (nat_eq tx tx) (up_to_end answer (answers_to tx es tolds)) (answers_to tx es tolds) (eq-eqb tx tx refl) in
-        elim (is_last answer) [
-          | inl last ↦ record {
-            steps = record { active = m.active; old = m.shared; new = next.shared; after = d.steps.changes.after; told = answer } ∷ [];
-            own = (refl, tells, tt);
-            answers = ap (λ (a : Answer). with_answer a []) last ∙ sym (here ∙ ap (λ (a : Answer). up_to_end a (answers_to tx es tolds)) last);
-          }
-          | inr (stays, first) ↦
-              let after_there : map.get next.txs tx ≡ Some d.steps.changes.after =
-              ap (λ (n : ManagerFields P). map.get n.txs tx) d.rest ∙ ap (λ (x : Table). map.get x tx) (stays d.txs tx ∙ d.steps.changes.is) ∙ inserted_here m.txs tx d.steps.changes.after in
-              let rest = again d.steps.changes.after after_there root_still in
-              record {
-                steps = record { active = m.active; old = m.shared; new = next.shared; after = d.steps.changes.after; told = answer } ∷ rest.steps;
-                own = (refl, tells, rest.own);
-                answers = ap (with_answer answer) rest.answers ∙ sym (here ∙ first (answers_to tx es tolds));
-              }
-        ]
+is_last other = inr (λ txs tx. refl, λ more. refl)
 
 module _ {P : Type 0} (bits_of : P → ℕ → ℕ) (root : Root P) (active : set.FinSet nat_cmp) (tx : ℕ) where
   not_told : (t0 : Told) (more : List Answer) (i : ℕ) → tx ≢ i → with_told tx (Event.Step i) t0 more ≡ more
   not_told (Told.Answered answer) more i differ = cond-false (nat_eq tx i) (up_to_end answer more) more (ne_eqb tx i differ)
   not_told other more i differ = refl
 
-  by_told : (m next : ManagerFields P) (h : IsManager bits_of m) (t : Transaction) (there : map.get m.txs tx ≡ Some t) → m.root ≡ root → (es : List Event) (tolds : List Told)
-      → ((t' : Transaction) → map.get next.txs tx ≡ Some t' → next.root ≡ root → HasOwnSteps (context_by bits_of root active tx) t' (view_in t' next.shared) tx es tolds)
-      → (t0 : Told) → Meets bits_of (Event.Step tx) t0 (counted m) next
-      → HasOwnSteps (context_by bits_of root active tx) t (view_in t m.shared) tx (Event.Step tx ∷ es) (t0 ∷ tolds)
-  by_told m next h t there same es tolds again (Told.Answered answer) a = own_step bits_of root active tx m next h t there same es tolds again answer a.0
-  by_told m next h t there same es tolds again (Told.Refused reason) a =
-      left_aside bits_of root active tx m next h t there same es tolds again (Event.Step tx) (Told.Refused reason)
-      (record {
-        there = ap (λ (n : ManagerFields P). map.get n.txs tx) a.1 ∙ there;
-        sees = ap (λ (n : ManagerFields P). view_in t n.shared) a.1;
-        root = ap (λ (n : ManagerFields P). n.root) a.1;
-      }) refl
-  by_told m next h t there same es tolds again other none = absurd none
+  -- what is so of the events behind this one makes it so of this one too
+  module _ (m next : ManagerFields P) (h : IsManager bits_of m) (t : Transaction) (there : map.get m.txs tx ≡ Some t) (same_root : m.root ≡ root) (es : List Event) (tolds : List Told)
+      (again : (t' : Transaction) → map.get next.txs tx ≡ Some t' → next.root ≡ root → HasOwnSteps (context_by bits_of root active tx) t' (view_in t' next.shared) tx es tolds) where
+    left_aside : (e : Event) (told : Told) → StaysAs (counted m) next tx t → with_told tx e told (answers_to tx es tolds) ≡ answers_to tx es tolds
+        → HasOwnSteps (context_by bits_of root active tx) t (view_in t m.shared) tx (e ∷ es) (told ∷ tolds)
+    left_aside e told stays nothing =
+        let rest = again t stays.there (stays.root ∙ same_root) in
+        record {
+          steps = rest.steps;
+          own = subst (λ (v : View). AreOwnSteps (context_by bits_of root active tx) t v rest.steps) stays.sees rest.own;
+          answers = rest.answers ∙ sym nothing;
+        }
 
-  -- the event of a number
-  one_event : (m next : ManagerFields P) (h : IsManager bits_of m) (t : Transaction) (there : map.get m.txs tx ≡ Some t) → m.root ≡ root → (es : List Event) (tolds : List Told)
-      → ((t' : Transaction) → map.get next.txs tx ≡ Some t' → next.root ≡ root → HasOwnSteps (context_by bits_of root active tx) t' (view_in t' next.shared) tx es tolds)
-      → (e : Event) (t0 : Told) → IsStepOrAnothers tx e → Meets bits_of e t0 (counted m) next
-      → HasOwnSteps (context_by bits_of root active tx) t (view_in t m.shared) tx (e ∷ es) (t0 ∷ tolds)
-  one_event m next h t there same es tolds again Event.Begin t0 ne a =
-      left_aside bits_of root active tx m next h t there same es tolds again Event.Begin t0 (of_begin bits_of tx t (counted m) next (counted_keeps bits_of m h) there t0 a) refl
-  one_event m next h t there same es tolds again (Event.Call i op) t0 ne a =
-      left_aside bits_of root active tx m next h t there same es tolds again (Event.Call i op) t0 (of_call bits_of i tx t ne (counted m) next (counted_keeps bits_of m h) there op t0 a) refl
-  one_event m next h t there same es tolds again (Event.Cancel i) t0 ne a =
-      left_aside bits_of root active tx m next h t there same es tolds again (Event.Cancel i) t0 (of_cancel bits_of i tx t ne (counted m) next (counted_keeps bits_of m h) there t0 a) refl
-  one_event m next h t there same es tolds again (Event.Commit i) t0 ne a =
-      left_aside bits_of root active tx m next h t there same es tolds again (Event.Commit i) t0 (of_commit bits_of i tx t ne (counted m) next (counted_keeps bits_of m h) there t0 a) refl
-  one_event m next h t there same es tolds again (Event.Abort i) t0 ne a =
-      left_aside bits_of root active tx m next h t there same es tolds again (Event.Abort i) t0 (of_abort bits_of i tx t ne (counted m) next (counted_keeps bits_of m h) there t0 a) refl
-  one_event m next h t there same es tolds again (Event.Whole i op) t0 ne a =
-      left_aside bits_of root active tx m next h t there same es tolds again (Event.Whole i op) t0 (of_whole bits_of i tx t ne (counted m) next (counted_keeps bits_of m h) there op t0 a) refl
-  one_event m next h t there same es tolds again (Event.WholeUndo i) t0 ne a =
-      left_aside bits_of root active tx m next h t there same es tolds again (Event.WholeUndo i) t0 (of_whole_undo bits_of i tx t ne (counted m) next (counted_keeps bits_of m h) there t0 a) refl
-  one_event m next h t there same es tolds again (Event.Step i) t0 ne a = elim (cases_eq tx i) [
-    | inr differ ↦
-        left_aside bits_of root active tx m next h t there same es tolds again (Event.Step i) t0 (of_step bits_of i tx t differ (counted m) next (counted_keeps bits_of m h) there t0 a) (not_told t0 (answers_to tx es tolds) i differ)
-    | inl own ↦
-        subst (λ (k : ℕ). HasOwnSteps (context_by bits_of root active tx) t (view_in t m.shared) tx (Event.Step k ∷ es) (t0 ∷ tolds)) own
-        (by_told m next h t there same es tolds again t0 (subst (λ (k : ℕ). Meets bits_of (Event.Step k) t0 (counted m) next) (sym own) a))
-  ]
+    -- a step of its own
+    module _ (answer : Answer) (d : HasStepped bits_of (counted m) next tx answer) where
+      tells : TellsOfTransaction (context_by bits_of root m.active tx) t d.steps.changes.after m.shared next.shared answer
+      tells =
+          let c = d.steps.changes in
+          let same : c.before ≡ t = one_there m.txs tx c.before t c.was there in
+          let number = (h.sound.fits tx t there).number in
+          subst (λ (r : Root P). TellsOfTransaction (context_by bits_of r m.active tx) t c.after m.shared next.shared answer) same_root
+          (subst (λ (n : ℕ). TellsOfTransaction (context_by bits_of m.root m.active n) t c.after m.shared next.shared answer) number
+          (subst (λ (x : Transaction). TellsOfTransaction (context_by bits_of m.root m.active x.subtx.tx) x c.after m.shared next.shared answer) same d.steps.tells))
+
+      own_step : HasOwnSteps (context_by bits_of root active tx) t (view_in t m.shared) tx (Event.Step tx ∷ es) (Told.Answered answer ∷ tolds)
+      own_step =
+          let here = cond-true (nat_eq tx tx) (up_to_end answer (answers_to tx es tolds)) (answers_to tx es tolds) (eq-eqb tx tx refl) in
+          let one : OwnStep = record { active = m.active; old = m.shared; new = next.shared; after = d.steps.changes.after; told = answer } in
+          elim (is_last answer) [
+            | inl last ↦ record {
+              steps = one ∷ [];
+              own = (refl, tells, tt);
+              answers = ap (λ (a : Answer). with_answer a []) last ∙ sym (here ∙ ap (λ (a : Answer). up_to_end a (answers_to tx es tolds)) last);
+            }
+            | inr (stays, first) ↦
+                let after_there : map.get next.txs tx ≡ Some d.steps.changes.after =
+                ap (λ (n : ManagerFields P). map.get n.txs tx) d.rest ∙ ap (λ (x : Table). map.get x tx) (stays d.txs tx ∙ d.steps.changes.is) ∙ inserted_here m.txs tx d.steps.changes.after in
+                let rest = again d.steps.changes.after after_there (ap (λ (n : ManagerFields P). n.root) d.rest ∙ same_root) in
+                record {
+                  steps = one ∷ rest.steps;
+                  own = (refl, tells, rest.own);
+                  answers = ap (with_answer answer) rest.answers ∙ sym (here ∙ first (answers_to tx es tolds));
+                }
+          ]
+
+    by_told : (told : Told) → Meets bits_of (Event.Step tx) told (counted m) next → HasOwnSteps (context_by bits_of root active tx) t (view_in t m.shared) tx (Event.Step tx ∷ es) (told ∷ tolds)
+    by_told (Told.Answered answer) a = own_step answer a.0
+    by_told (Told.Refused reason) a = left_aside (Event.Step tx) (Told.Refused reason) (same_stays (counted m) next tx t a.1 there) refl
+    by_told other none = absurd none
+
+    one_event : (e : Event) (told : Told) → IsStepOrAnothers tx e → Meets bits_of e told (counted m) next
+        → HasOwnSteps (context_by bits_of root active tx) t (view_in t m.shared) tx (e ∷ es) (told ∷ tolds)
+    one_event (Event.Step i) told ne a = elim (cases_eq tx i) [
+      | inl own ↦
+          subst (λ (k : ℕ). HasOwnSteps (context_by bits_of root active tx) t (view_in t m.shared) tx (Event.Step k ∷ es) (told ∷ tolds)) own
+          (by_told told (subst (λ (k : ℕ). Meets bits_of (Event.Step k) told (counted m) next) (sym own) a))
+      | inr differ ↦
+          let stays = event_leaves bits_of tx t (counted m) next (counted_keeps bits_of m h) there (Event.Step i) told ne (λ j is e. differ (cc (is, e))) a in
+          left_aside (Event.Step i) told stays (not_told told (answers_to tx es tolds) i differ)
+    ]
+    one_event other told ne a =
+        left_aside other told (event_leaves bits_of tx t (counted m) next (counted_keeps bits_of m h) there other told ne (λ i is. absurd (cc is)) a) refl
 
   -- **The steps of a transaction in a run are steps of its own.**
   pub run_steps : (events : List Event) (tolds : List Told) (m m' : ManagerFields P) (t : Transaction) → IsManager bits_of m → map.get m.txs tx ≡ Some t → m.root ≡ root → OnlySteps tx events → IsRun bits_of m events tolds m'
       → HasOwnSteps (context_by bits_of root active tx) t (view_in t m.shared) tx events tolds
   run_steps [] [] m m' t h there same only run = record { steps = []; own = tt; answers = refl }
-  run_steps [] (t0 ∷ tolds) m m' t h there same only none = absurd none
-  run_steps (e ∷ es) [] m m' t h there same only none = absurd none
-  run_steps (e ∷ es) (t0 ∷ tolds) m m' t h there same only (next, meets, rest) =
+  run_steps (e ∷ es) (told ∷ tolds) m m' t h there same only (next, meets, rest) =
       one_event m next h t there same es tolds
-      (λ t' there' same'. run_steps es tolds next m' t' (meets_keeps bits_of (counted m) next (counted_keeps bits_of m h) e t0 meets) there' same' only.1 rest)
-      e t0 only.0 meets
+      (λ t' there' same'. run_steps es tolds next m' t' (meets_keeps bits_of (counted m) next (counted_keeps bits_of m h) e told meets) there' same' only.1 rest)
+      e told only.0 meets
+  run_steps es tolds m m' t h there same only none = absurd none
 
 -- **From a call on.**
 pub from_call : {P : Type 0} (bits_of : P → ℕ → ℕ) (tx : ℕ) (op : ObjOp) (events : List Event) (tolds : List Told) (m called new : ManagerFields P) → IsManager bits_of m

@@ -8,7 +8,7 @@ use Rattle.mlt_manager_laws.proofs.Names.{context_by, Answer, At, Transaction, T
 use Rattle.mlt_tx_operation.specs.Operating.{OperationFields}
 use Rattle.mlt_tx_meaning.specs.AbstractStates.{context_of}
 use Rattle.mlt_tx.specs.{declared.shared.SharedState.SharedState, Endings.EndsSubtx, Steps.EndsBack, Transactions.StepsBack, Transactions.StepsPending, Transactions.TellsAt, Transactions.tx_state_of}
-use Rattle.mlt_manager_invariant.{specs.Events.KeepsCleanPages, specs.Events.with_transaction, specs.States.State, specs.States.all_of, specs.States.images_kept, specs.States.abstract_state_of, proofs.Inverting.inverse_sound, proofs.MaySteps.is_open_now, proofs.MaySteps.same_local, proofs.Pending.not_done_sound}
+use Rattle.mlt_manager_invariant.{specs.Events.KeepsCleanPages, specs.Events.with_transaction, specs.States.all_of, specs.States.images_kept, specs.States.abstract_state_of, proofs.Inverting.inverse_sound, proofs.MaySteps.is_open_now, proofs.MaySteps.same_local, proofs.Pending.not_done_sound}
 
 -- a transaction is still what it was, and sees what it saw
 pub record StaysAs {P : Type 0} (m m' : ManagerFields P) (u : ℕ) (t : Transaction) : Type 0 where
@@ -16,10 +16,11 @@ pub record StaysAs {P : Type 0} (m m' : ManagerFields P) (u : ℕ) (t : Transact
   pub sees : view_in t m'.shared ≡ view_in t m.shared
   pub root : m'.root ≡ m.root
 
-module _ {P : Type 0} (bits_of : P → ℕ → ℕ) (m : ManagerFields P) (h : IsManager bits_of m) (i u : ℕ) (t : Transaction) (ne : u ≢ i) (there : map.get m.txs u ≡ Some t) where
-  abbrev now : State
-  now = state_of bits_of m h.images h.base
+-- where no page has changed
+pub quiet_stays : {P : Type 0} (m m' : ManagerFields P) (u : ℕ) (t : Transaction) → map.get m'.txs u ≡ Some t → m'.shared.pages ≡ m.shared.pages → m'.root ≡ m.root → StaysAs m m' u t
+quiet_stays m m' u t there pages root = record { there = there; sees = ap (λ (p : LockedStore). view_of (local t.subtx p)) pages; root = root }
 
+module _ {P : Type 0} (bits_of : P → ℕ → ℕ) (m : ManagerFields P) (h : IsManager bits_of m) (i u : ℕ) (t : Transaction) (ne : u ≢ i) (there : map.get m.txs u ≡ Some t) where
   sees : (all : AllRunning) → KeepsRunning i (all_of (state_of bits_of m h.images h.base)) all → (shared : SharedState) → all.locks ≡ shared.pages.locks → all.store ≡ shared.pages.store → view_in t shared ≡ view_in t m.shared
   sees all keeps shared locks store =
       let number = (h.sound.fits u t there).number in
@@ -34,9 +35,6 @@ module _ {P : Type 0} (bits_of : P → ℕ → ℕ) (m : ManagerFields P) (h : I
   pub clean_sees : (before after : Transaction) (shared : SharedState) → KeepsCleanPages (state_of bits_of m h.images h.base) i before after shared → view_in t shared ≡ view_in t m.shared
   clean_sees before after shared (images, keeps) = sees (all_of (with_transaction (state_of bits_of m h.images h.base) i after shared images)) keeps.runs shared refl refl
 
-  pub same_sees : (shared : SharedState) → shared.pages ≡ m.shared.pages → view_in t shared ≡ view_in t m.shared
-  same_sees shared same = ap (λ (p : LockedStore). view_of (local t.subtx p)) same
-
   module _ (before : Transaction) (was : map.get m.txs i ≡ Some before) where
     end_sees : (running : Running) (shared : SharedState) → EndsSubtx before.subtx running m.shared shared → view_in t shared ≡ view_in t m.shared
     end_sees running shared ends =
@@ -46,13 +44,10 @@ module _ {P : Type 0} (bits_of : P → ℕ → ℕ) (m : ManagerFields P) (h : I
 
     by_pending : (o : OperationFields) (after : Transaction) (shared : SharedState) (told : Answer) → before.at ≡ At.Pending o
         → StepsPending (context_of (abstract_state_of (state_of bits_of m h.images h.base)) i) o before after m.shared shared told → view_in t shared ≡ view_in t m.shared
-    by_pending o after shared Answer.Going is s = clean_sees before after shared (not_done_sound (state_of bits_of m h.images h.base) i o before after shared Answer.Going h.sound was is s (λ reply e. cc))
-    by_pending o after shared (Answer.Waiting page by) is s = clean_sees before after shared (not_done_sound (state_of bits_of m h.images h.base) i o before after shared (Answer.Waiting page by) h.sound was is s (λ reply e. cc))
-    by_pending o after shared (Answer.Refused reason) is s = clean_sees before after shared (not_done_sound (state_of bits_of m h.images h.base) i o before after shared (Answer.Refused reason) h.sound was is s (λ reply e. cc))
-    by_pending o after shared (Answer.Blocked by) is s = clean_sees before after shared (not_done_sound (state_of bits_of m h.images h.base) i o before after shared (Answer.Blocked by) h.sound was is s (λ reply e. cc))
     by_pending o after shared (Answer.Done reply) is s = ap (λ (c : SharedState). view_in t c) s.leaves ∙ end_sees after.subtx s.between s.tells.tells.1.ends
     by_pending o after shared Answer.Undone is s = absurd s.tells
     by_pending o after shared Answer.Aborted is s = absurd s.tells
+    by_pending o after shared told is s = clean_sees before after shared (not_done_sound (state_of bits_of m h.images h.base) i o before after shared told h.sound was is s (λ reply e. cc))
 
     between_sees : (inverting next : Option OperationFields) (after : Transaction) (shared : SharedState) (told : Answer) (e : EndsBack inverting next (tx_state_of before m.shared) (tx_state_of after shared) told)
         → view_in t e.between ≡ view_in t m.shared
@@ -67,9 +62,7 @@ module _ {P : Type 0} (bits_of : P → ℕ → ℕ) (m : ManagerFields P) (h : I
         ap (λ (p : LockedStore). view_of (local t.subtx p)) s.tells.takes.off.pages ∙ between_sees inverting s.next after shared Answer.Undone s.tells
     by_undoing inverting after shared Answer.Aborted is s =
         ap (λ (p : LockedStore). view_of (local t.subtx p)) s.tells.takes.off.pages ∙ between_sees inverting s.next after shared Answer.Aborted s.tells
-    by_undoing inverting after shared (Answer.Blocked by) is s = absurd s.tells
-    by_undoing inverting after shared (Answer.Done reply) is s = absurd s.tells
-    by_undoing inverting after shared (Answer.Refused reason) is s = absurd s.tells
+    by_undoing inverting after shared other is s = absurd s.tells
 
     by_at : (a : At) (after : Transaction) (shared : SharedState) (told : Answer) → before.at ≡ a
         → TellsAt a (context_of (abstract_state_of (state_of bits_of m h.images h.base)) i) before after m.shared shared told → view_in t shared ≡ view_in t m.shared
@@ -77,15 +70,12 @@ module _ {P : Type 0} (bits_of : P → ℕ → ℕ) (m : ManagerFields P) (h : I
     by_at (At.Pending o) after shared told is s = by_pending o after shared told is s
     by_at (At.Undoing inverting) after shared told is s = by_undoing inverting after shared told is s
 
-  changed_there : (txs : Table) (after : Transaction) → txs ≡ map.insert m.txs i after → map.get txs u ≡ Some t
-  changed_there txs after is = ap (λ (x : Table). map.get x u) is ∙ inserted_elsewhere m.txs i after u ne ∙ there
-
   pub changed_stays : (txs : Table) (after : Transaction) → txs ≡ map.insert m.txs i after → map.get txs u ≡ Some t
-  changed_stays txs after is = changed_there txs after is
+  changed_stays txs after is = ap (λ (x : Table). map.get x u) is ∙ inserted_elsewhere m.txs i after u ne ∙ there
 
   table_after : (told : Answer) (txs : Table) (after : Transaction) → txs ≡ map.insert m.txs i after → map.get (txs_after told i txs) u ≡ Some t
-  table_after Answer.Aborted txs after is = removed_elsewhere txs i u ne ∙ changed_there txs after is
-  table_after other txs after is = changed_there txs after is
+  table_after Answer.Aborted txs after is = removed_elsewhere txs i u ne ∙ changed_stays txs after is
+  table_after other txs after is = changed_stays txs after is
 
   -- **A step of another.**
   pub step_leaves : (m' : ManagerFields P) (told : Answer) → HasStepped bits_of m m' i told → StaysAs m m' u t

@@ -1,48 +1,33 @@
--- The numbers begun, item by item.
-use Rattle.std.proofs.Common.{◌≡◌, ℕ, ◌+◌, ◌<◌, ◌≤◌, List, [], ◌∷◌, ◌++◌, length, get_or, take, drop, Contains, refl, sym, ap, subst, ◌∙◌, inl, inr, take-append-drop, take_all}
-use Rattle.mlt_trace_audit.proofs.Names.{take_more, contains-first, TraceItem, Begin, Op, Back, Commit, Abort, begin_count, begun_txs, begins_counted, begun_txs-append, no_begin, earlier_or_last}
-use Rattle.std.proofs.lemmas.List.Elements.{Contains-append_right}
-use Rattle.mlt_trace_audit.proofs.Placed.{begun_in}
+-- The numbers begun are those of the begins.
+use Rattle.std.proofs.Common.{◌≡◌, ℕ, ◌+◌, ◌<◌, List, [], ◌∷◌, ◌++◌, length, get_or, take, Contains, refl, sym, ap, subst, ◌∙◌, inl, inr, length-append}
+use Rattle.mlt_trace_audit.proofs.Names.{contains-first, contains-later, contains-nothing, TraceItem, Begin, begin_count, begun_txs, begun_txs-append, first_or_later}
+use Rattle.std.proofs.lemmas.List.{take_more, Elements.Contains-append_right}
 
-begins_nothing : (x : TraceItem) → ((tx : ℕ) → x ≡ Begin tx → ⊥) → begun_txs (x ∷ []) ≡ []
-begins_nothing (Begin tx) none = absurd (none tx refl)
-begins_nothing (Op tx done) none = refl
-begins_nothing (Back tx) none = refl
-begins_nothing (Commit tx number) none = refl
-begins_nothing (Abort tx) none = refl
+-- where it is a begin, this is so of its number
+abbrev pub OfBegin : (ℕ → Type 0) → TraceItem → Type 0
+OfBegin P item = (tx : ℕ) → item ≡ Begin tx → P tx
 
-module _ (history : List TraceItem) (i : ℕ) (item : TraceItem) (within : i < length history) (is : item ≡ get_or history i item) where
-  next_items : take (i + 1) history ≡ take i history ++ item ∷ []
-  next_items = take_more history i item within ∙ ap (λ x. take i history ++ x ∷ []) (sym is)
+pub begin_there : (items : List TraceItem) (tx : ℕ) → Contains (begun_txs items) tx → Contains items (Begin tx)
+begin_there [] tx h = absurd (contains-nothing tx h)
+begin_there (Begin own ∷ items) tx h = elim (first_or_later own (begun_txs items) tx h) [
+  | inl first ↦ subst (λ n. Contains (Begin own ∷ items) (Begin n)) first (contains-first (Begin own) items)
+  | inr later ↦ contains-later (Begin own) (Begin tx) items (begin_there items tx later)
+]
+begin_there (other ∷ items) tx h = contains-later other (Begin tx) items (begin_there items tx h)
 
-  -- an item that is no begin
-  module _ (none : (tx : ℕ) → item ≡ Begin tx → ⊥) where
-    pub same_begun : begun_txs (take (i + 1) history) ≡ begun_txs (take i history)
-    same_begun = ap begun_txs next_items ∙ no_begin (take i history) item (begins_nothing item none)
+pub begun_there : (items : List TraceItem) (tx : ℕ) → Contains items (Begin tx) → Contains (begun_txs items) tx
+begun_there [] tx h = absurd (contains-nothing (Begin tx) h)
+begun_there (item ∷ items) tx h = elim (first_or_later item items (Begin tx) h) [
+  | inl first ↦ subst (λ x. Contains (begun_txs (x ∷ items)) tx) (sym first) (contains-first tx (begun_txs items))
+  | inr later ↦ subst (λ ns. Contains ns tx) (sym (begun_txs-append (item ∷ []) items)) (Contains-append_right (begun_txs (item ∷ [])) (begun_txs items) tx (begun_there items tx later))
+]
 
-    pub one_other : begin_count (take (i + 1) history) ≡ begin_count (take i history)
-    one_other = ap length same_begun
+pub no_begin_counted : (item : TraceItem) → ((tx : ℕ) → item ≡ Begin tx → ⊥) → begin_count (item ∷ []) ≡ 0
+no_begin_counted (Begin tx) none = absurd (none tx refl)
+no_begin_counted other none = refl
 
-  -- a begin
-  module _ (own : ℕ) (is_begin : item ≡ Begin own) where
-    next_begun : begun_txs (take (i + 1) history) ≡ begun_txs (take i history) ++ own ∷ []
-    next_begun = ap begun_txs next_items ∙ ap (λ x. begun_txs (take i history ++ x ∷ [])) is_begin ∙ begun_txs-append (take i history) (Begin own ∷ [])
-
-    pub one_begin : begin_count (take (i + 1) history) ≡ begin_count (take i history) + 1
-    one_begin = ap begin_count next_items ∙ ap (λ x. begin_count (take i history ++ x ∷ [])) is_begin ∙ begins_counted (take i history) own
-
-    pub is_begun_here : Contains (begun_txs history) own
-    is_begun_here =
-        let next : Contains (begun_txs (take (i + 1) history)) own =
-        subst (λ ns. Contains ns own) (sym next_begun) (Contains-append_right (begun_txs (take i history)) (own ∷ []) own (contains-first own [])) in
-        begun_in (take (i + 1) history) (drop (i + 1) history) history own (sym (take-append-drop (i + 1) history)) next
-
-    -- what is true of the numbers so far, and of this one
-    pub begun_more : (P : ℕ → Type 0) → P own → ((tx : ℕ) → Contains (begun_txs (take i history)) tx → P tx) → (tx : ℕ) → Contains (begun_txs (take (i + 1) history)) tx → P tx
-    begun_more P here before tx h = elim (earlier_or_last (begun_txs (take i history)) own tx (subst (λ ns. Contains ns tx) next_begun h)) [
-      | inl earlier ↦ before tx earlier
-      | inr last ↦ subst P last here
-    ]
-
-pub begun_all : (history : List TraceItem) (i tx : ℕ) → length history ≤ i → Contains (begun_txs history) tx → Contains (begun_txs (take i history)) tx
-begun_all history i tx past h = subst (λ is. Contains (begun_txs is) tx) (sym (take_all i history past)) h
+pub begin_count_more : (history : List TraceItem) (i : ℕ) (item : TraceItem) → i < length history → item ≡ get_or history i item
+    → begin_count (take (i + 1) history) ≡ begin_count (take i history) + begin_count (item ∷ [])
+begin_count_more history i item within is =
+    ap begin_count (take_more history i item within ∙ ap (λ x. take i history ++ x ∷ []) (sym is))
+    ∙ ap length (begun_txs-append (take i history) (item ∷ [])) ∙ length-append (begun_txs (take i history)) (begun_txs (item ∷ []))

@@ -2,9 +2,7 @@ mod Names
 pub mod Loops
 mod Parts
 pub mod Placed
-pub mod Apart
 pub mod Begun
-pub mod Walking
 pub mod Marks
 pub mod Counts
 pub mod Orderly

@@ -1,22 +1,13 @@
 -- Operations with their replies are the same where their parts are.
 use Rattle.std.proofs.Common.{◌≡◌, refl, sym, ap, ◌∙◌}
-use Rattle.mlt_object_kinds.specs.declared.account.AccountOp.TheVariants.{Open, Close, Deposit, Withdraw, Balance}
-use Rattle.mlt_object_kinds.specs.{declared.counter.CounterOp.TheVariants.Up, declared.counter.CounterOp.TheVariants.Down, declared.counter.CounterOp.TheVariants.Read, declared.element.ElementOp.TheVariants.Add, declared.element.ElementOp.TheVariants.Remove, declared.element.ElementOp.TheVariants.Has, declared.operation.ObjOp.TheVariants.Account, declared.operation.ObjOp.TheVariants.Element, declared.operation.ObjOp.TheVariants.Counter, declared.operation.ObjOp.TheVariants.Size, declared.operation.ObjReply.TheVariants.Opened, Packing.op_in, Packing.reply_in}
+use Rattle.mlt_object_kinds.specs.{declared.account.AccountOp.TheVariants.Open, declared.counter.CounterOp.TheVariants.Read, declared.element.ElementOp.TheVariants.Has, declared.operation.ObjOp.TheVariants.Account, declared.operation.ObjOp.TheVariants.Element, declared.operation.ObjOp.TheVariants.Counter, declared.operation.ObjReply.TheVariants.Opened, Packing.op_in, Packing.reply_in}
 use Rattle.mlt_trace_audit.proofs.Names.{ObjOp, ObjReply, parts_of}
 
 op_of_parts : (op : ObjOp) (reply : ObjReply) → op_in (parts_of op reply) ≡ op
 op_of_parts (Account number Open) reply = refl
-op_of_parts (Account number Close) reply = refl
-op_of_parts (Account number (Deposit amount)) reply = refl
-op_of_parts (Account number (Withdraw amount)) reply = refl
-op_of_parts (Account number Balance) reply = refl
-op_of_parts (Element set number Add) reply = refl
-op_of_parts (Element set number Remove) reply = refl
 op_of_parts (Element set number Has) reply = refl
-op_of_parts (Counter number (Up amount)) reply = refl
-op_of_parts (Counter number (Down amount)) reply = refl
 op_of_parts (Counter number Read) reply = refl
-op_of_parts (Size set) reply = refl
+op_of_parts other reply = refl
 
 reply_of_parts : (op : ObjOp) (reply : ObjReply) → reply_in (parts_of op reply) ≡ reply
 reply_of_parts op reply = elim reply as (λ reply. reply_in (parts_of op reply) ≡ reply) [ Opened ↦ refl | _ ↦ refl ]

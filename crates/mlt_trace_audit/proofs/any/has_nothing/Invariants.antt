@@ -1,5 +1,5 @@
 use Rattle.std.proofs.Common.{drop}
-use Rattle.mlt_trace_audit.proofs.Apart.{HaveSame}
+use Rattle.mlt_trace_audit.proofs.Placed.{HaveSame}
 use Rattle.mlt_trace_audit.proofs.any.has_nothing.Given as goal
 
 abbrev pub invariant-loop-i : goal.invariant-loop-i

@@ -1,6 +1,6 @@
-use Rattle.std.proofs.Common.{Contains, take}
-use Rattle.mlt_trace_audit.proofs.Names.{begun_txs}
+use Rattle.std.proofs.Common.{◌≢◌, All, take}
+use Rattle.mlt_trace_audit.proofs.Begun.{OfBegin}
 use Rattle.mlt_trace_audit.proofs.any.is_begun.Given as goal
 
 abbrev pub invariant-loop-item : goal.invariant-loop-item
-invariant-loop-item l = Contains (begun_txs (take l.item-index l.history)) l.tx → ⊥
+invariant-loop-item l = All (OfBegin (λ own. own ≢ l.tx)) (take l.item-index l.history)

@@ -1,9 +1,6 @@
-use Rattle.std.proofs.Common.{arith, refl}
-use Rattle.mlt_trace_audit.proofs.Marks.{all_marked, marked_twice, unmarked}
+use Rattle.std.proofs.Common.{arith}
+use Rattle.mlt_trace_audit.proofs.Marks.{all_marked, marked_twice}
 use Rattle.mlt_trace_audit.proofs.numbers.are_each_once.Goals as goal
-
-pub loop-outcome-init : goal.loop-outcome-init
-loop-outcome-init c = record { size = refl; marked = unmarked c.args.marks.now c.requires }
 
 pub returns-then-marks-place : goal.returns-then-marks-place
 returns-then-marks-place c =
