@@ -1,136 +1,137 @@
--- One step of an inverse, of an operation on one record or on two
-use Rattle.std.proofs.Common.{ℕ, ◌≡◌, ◌⊎◌, List, [], ◌∷◌, ◌++◌, Option, None, Some, IsSome, refl, sym, ap, subst, ◌∙◌, inl, inr}
-use Rattle.mlt_tx_step_counts.proofs.Names.{ObjOp, ObjReply, inverse_of, local, View, view_of, WalkContext, one_key, StepsOn, OperationFields, Answer, At, Transaction, inverse_from, TellsAt, TellsOfTransaction, IsTakenBack, IsToTakeBack, AreOwnSteps, GoesThen, OwnStep, answers_of, context_at, view_in, with_answer}
+-- The steps of an inverse, of an operation on one record or on two
+use Rattle.std.proofs.Common.{◌≡◌, ◌⊎◌, List, [], ◌∷◌, ◌++◌, Option, None, Some, IsSome, ℕ, ◌≤◌, refl, sym, ap, subst, ◌∙◌, inl, inr, arith}
+use Rattle.mlt_tx_step_counts.proofs.Names.{ObjOp, ObjReply, TakeBack, inverse_of, local, View, view_of, WalkContext, one_key, First, Owing, Wide, WideStage, AccessPath, One, Two, StepsOn, IsInFirst, OperationFields, started_for, Answer, At, Transaction, TellsAt, TellsOfTransaction, IsTakenBack, IsToTakeBack, AreOwnSteps, GoesThen, OwnStep, answers_of, context_at, view_in, with_answer}
 use Rattle.mlt_object_base.specs.Undo.{Undo}
-use Rattle.mlt_tx_operation.specs.Answers.{Waits}
-use Rattle.mlt_tx.{specs.Transactions.StepsBack, proofs.Backing.one_last}
-
-not_both : {A B : Type 0} (o : Option B) → IsSome o → o ≡ None → A
-not_both None is none = cc
-not_both (Some x) is none = cc
-
-no_some : {A : Type 0} (o : OperationFields) → Some o ≡ None → A
-no_some o is = cc
-
--- an end of an inverse comes once its reply is told
-ends_at_last : {A : Type 0} (inverting : Option OperationFields) (last : ObjOp × ObjReply) → (inverting ≡ None → IsSome (inverse_of last)) → (inverse_from inverting last).reply ≡ None
-    → (inverting ≡ None → inverse_of last ≡ None) → ((o : OperationFields) → inverting ≡ Some o → IsSome o.reply) → A
-ends_at_last None last begins untold without at_end = not_both (inverse_of last) (begins refl) (without refl)
-ends_at_last (Some o) last begins untold without at_end = not_both o.reply (at_end o refl) untold
+use Rattle.mlt_tx_operation.specs.{Answers.Waits, Operating.steps_by, Operating.steps_left}
+use Rattle.mlt_tx.{specs.Steps.EndsBack, specs.Steps.InverseSteps, specs.Steps.inverse_from, specs.Transactions.StepsBack, specs.Transactions.tx_state_of, proofs.Backing.one_last}
+use Rattle.mlt_tx_step_counts.proofs.{Answers.is_wait, Answers.then_after, PendingSteps.Goes, PendingSteps.Runner, PendingSteps.Stays, PendingSteps.not_both}
 
 -- The abort takes this operation back, the last that stands: its inverse runs, or is to begin.
-pub record Undoes (inverting : Option OperationFields) (last : ObjOp × ObjReply) (t : Transaction) : Type 0 where
+pub record Inverts (last : ObjOp × ObjReply) (o : OperationFields) (t : Transaction) : Type 0 where
+  pub inverting : Option OperationFields
   pub undoing : t.at ≡ At.Undoing inverting
   pub front : List (ObjOp × ObjReply)
   pub entries : t.undo.entries ≡ front ++ last ∷ []
   pub begins : inverting ≡ None → IsSome (inverse_of last)
+  pub is : inverse_from inverting last ≡ o
+  pub first : IsInFirst o.access_path
 
--- it goes on
-pub record GoesBack (context : WalkContext) (inverting : Option OperationFields) (last : ObjOp × ObjReply) (t : Transaction) (own : OwnStep) : Type 0 where
-  pub going : own.told ≡ Answer.Going
-  pub next : OperationFields
-  pub undoes : Undoes (Some next) last own.after
-  pub on : StepsOn (context_at (one_key context) own) (local t.subtx own.old.pages) (local own.after.subtx own.new.pages) (inverse_from inverting last) next
+-- an end of an inverse comes once its reply is told
+ends_at_last : (inverting : Option OperationFields) (last : ObjOp × ObjReply) (o : OperationFields) → inverse_from inverting last ≡ o → (inverting ≡ None → IsSome (inverse_of last)) → o.reply ≡ None
+    → (inverting ≡ None → inverse_of last ≡ None) → ((x : OperationFields) → inverting ≡ Some x → IsSome x.reply) → ⊥
+ends_at_last None last o is begins untold without at_end = not_both (inverse_of last) (begins refl) (without refl)
+ends_at_last (Some x) last o is begins untold without at_end = not_both x.reply (at_end x refl) (ap (λ (y : OperationFields). y.reply) is ∙ untold)
 
--- it waits, and stands where it stood
-pub record StaysBack (inverting : Option OperationFields) (last : ObjOp × ObjReply) (t : Transaction) (own : OwnStep) : Type 0 where
-  pub page : ℕ
-  pub by : ℕ
-  pub waiting : own.told ≡ Answer.Waiting page by
-  pub next : Option OperationFields
-  pub undoes : Undoes next last own.after
-  pub stands : inverse_from next last ≡ inverse_from inverting last
-  pub same : view_in own.after own.new ≡ view_in t own.old
+-- it goes on, in its first pass
+record GoesBack (context : WalkContext) (last : ObjOp × ObjReply) (o : OperationFields) (t : Transaction) (own : OwnStep) : Type 0 where
+  goes : Goes (one_key context) (Inverts last) o t own
+  on : StepsOn (context_at (one_key context) own) (local t.subtx own.old.pages) (local own.after.subtx own.new.pages) o goes.next
 
 -- it is at its end
-pub record Ended (inverting : Option OperationFields) (last : ObjOp × ObjReply) (own : OwnStep) : Type 0 where
-  pub taken : IsTakenBack own.told
-  pub told : (inverse_from inverting last).reply ≡ None → ⊥
+record Ended (o : OperationFields) (own : OwnStep) : Type 0 where
+  taken : IsTakenBack own.told
+  told : o.reply ≡ None → ⊥
 
-abbrev pub BackOutcome : WalkContext → Option OperationFields → ObjOp × ObjReply → Transaction → OwnStep → Type 0
-BackOutcome context inverting last t own = StaysBack inverting last t own ⊎ GoesBack (one_key context) inverting last t own ⊎ Ended inverting last own
+abbrev BackOutcome : WalkContext → ObjOp × ObjReply → OperationFields → Transaction → OwnStep → Type 0
+BackOutcome context last o t own = Stays (Inverts last) o t own ⊎ GoesBack (one_key context) last o t own ⊎ Ended o own
 
-module _ (context : WalkContext) (inverting : Option OperationFields) (last : ObjOp × ObjReply) (t : Transaction) (own : OwnStep) (undoes : Undoes inverting last t) where
-  back_step : TellsOfTransaction (context_at (one_key context) own) t own.after own.old own.new own.told → StepsBack (context_at (one_key context) own) inverting t own.after own.old own.new own.told
-  back_step tells = subst (λ (a : At). TellsAt a (context_at (one_key context) own) t own.after own.old own.new own.told) undoes.undoing tells
+module _ (context : WalkContext) (last : ObjOp × ObjReply) (o : OperationFields) (t : Transaction) (own : OwnStep) (inv : Inverts last o t) where
+  -- where it takes a step, it runs then
+  steps_on : (next : Option OperationFields) (Is : OperationFields → OperationFields → Type 0) → own.after.at ≡ At.Undoing next
+      → (w : InverseSteps inv.inverting next t.undo own.after.undo own.old own.new Is)
+      → Is o w.after × ((o' : OperationFields) → w.after ≡ o' → Inverts last o' own.after)
+  steps_on next Is now_at w =
+      let same : w.last ≡ last = one_last t.undo.entries w.front inv.front w.last last w.entries inv.entries in (
+        subst (λ (x : OperationFields). Is x w.after) (ap (inverse_from inv.inverting) same ∙ inv.is) w.tells,
+        λ o' is. record {
+          inverting = Some w.after;
+          undoing = now_at ∙ ap At.Undoing w.is;
+          front = inv.front;
+          entries = ap (λ (u : Undo). u.entries) w.rest.undo_kept ∙ inv.entries;
+          begins = λ none. cc;
+          is = is;
+          first = subst (λ (x : OperationFields). IsInFirst x.access_path) is w.inverts.first;
+        },
+      )
 
-  by_answer : (told : Answer) → own.told ≡ told → StepsBack (context_at (one_key context) own) inverting t own.after own.old own.new told → BackOutcome (one_key context) inverting last t own
+  ended : (told : Answer) (next : Option OperationFields) → own.told ≡ told → IsTakenBack told
+      → EndsBack inv.inverting next (tx_state_of t own.old) (tx_state_of own.after own.new) told → BackOutcome (one_key context) last o t own
+  ended told next is taken e = inr (inr (record {
+    taken = subst IsTakenBack (sym is) taken;
+    told = λ untold. ends_at_last inv.inverting last o inv.is inv.begins untold (λ none. e.without inv.front last none inv.entries) (λ x some. (e.at_end x some).0);
+  }))
+
+  by_answer : (told : Answer) → own.told ≡ told → StepsBack (context_at (one_key context) own) inv.inverting t own.after own.old own.new told → BackOutcome (one_key context) last o t own
   by_answer Answer.Going is s =
-      let w = s.tells in
-      let same : w.last ≡ last = one_last t.undo.entries w.front undoes.front w.last last w.entries undoes.entries in
-      inr (inl (record {
-        going = is;
-        next = w.after;
-        undoes = record {
-          undoing = s.now_at ∙ ap At.Undoing w.is;
-          front = undoes.front;
-          entries = ap (λ (u : Undo). u.entries) w.rest.undo_kept ∙ undoes.entries;
-          begins = no_some w.after;
-        };
-        on = subst (λ (item : ObjOp × ObjReply). StepsOn (context_at (one_key context) own) (local t.subtx own.old.pages) (local own.after.subtx own.new.pages) (inverse_from inverting item) w.after) same w.tells;
-      }))
+      let w = steps_on s.next (StepsOn (context_at (one_key context) own) (local t.subtx own.old.pages) (local own.after.subtx own.new.pages)) s.now_at s.tells in
+      inr (inl (record { goes = record { going = is; next = s.tells.after; runs = w.1 s.tells.after refl; tells = inl w.0 }; on = w.0 }))
   by_answer (Answer.Waiting page by) is s =
-      let w = s.tells in
-      let same : w.last ≡ last = one_last t.undo.entries w.front undoes.front w.last last w.entries undoes.entries in
-      let waits : Waits (context_at (one_key context) own) (local t.subtx own.old.pages) (local own.after.subtx own.new.pages) (inverse_from inverting last) w.after page by =
-      subst (λ (item : ObjOp × ObjReply). Waits (context_at (one_key context) own) (local t.subtx own.old.pages) (local own.after.subtx own.new.pages) (inverse_from inverting item) w.after page by) same w.tells in
-      inl (record {
-        page = page;
-        by = by;
-        waiting = is;
-        next = Some w.after;
-        undoes = record {
-          undoing = s.now_at ∙ ap At.Undoing w.is;
-          front = undoes.front;
-          entries = ap (λ (u : Undo). u.entries) w.rest.undo_kept ∙ undoes.entries;
-          begins = no_some w.after;
-        };
-        stands = waits.stays;
-        same = ap view_of waits.pages;
-      })
-  by_answer Answer.Undone is s = inr (inr (record {
-    taken = subst IsTakenBack (sym is) tt;
-    told = λ untold. ends_at_last inverting last undoes.begins untold (λ none. s.tells.without undoes.front last none undoes.entries) (λ o some. (s.tells.at_end o some).0);
-  }))
-  by_answer Answer.Aborted is s = inr (inr (record {
-    taken = subst IsTakenBack (sym is) tt;
-    told = λ untold. ends_at_last inverting last undoes.begins untold (λ none. s.tells.without undoes.front last none undoes.entries) (λ o some. (s.tells.at_end o some).0);
-  }))
-  by_answer (Answer.Blocked by) is s = absurd s.tells
-  by_answer (Answer.Done reply) is s = absurd s.tells
-  by_answer (Answer.Refused reason) is s = absurd s.tells
+      let w = steps_on s.next (λ x x'. Waits (context_at (one_key context) own) (local t.subtx own.old.pages) (local own.after.subtx own.new.pages) x x' page by) s.now_at s.tells in
+      inl (record { waits = is_wait own.told page by is; runs = w.1 o w.0.stays; same = ap view_of w.0.pages })
+  by_answer Answer.Undone is s = ended Answer.Undone s.next is tt s.tells
+  by_answer Answer.Aborted is s = ended Answer.Aborted s.next is tt s.tells
+  by_answer other is s = absurd s.tells
 
-  -- **A step of an inverse.**
-  pub inverse_step : TellsOfTransaction (context_at (one_key context) own) t own.after own.old own.new own.told → BackOutcome (one_key context) inverting last t own
-  inverse_step tells = by_answer own.told refl (back_step tells)
+  back_step : TellsOfTransaction (context_at (one_key context) own) t own.after own.old own.new own.told → BackOutcome (one_key context) last o t own
+  back_step tells = by_answer own.told refl (subst (λ (a : At). TellsAt a (context_at (one_key context) own) t own.after own.old own.new own.told) inv.undoing tells)
 
-pub taken_then : (told : Answer) (rest : List Answer) → IsTakenBack told → GoesThen 0 IsTakenBack (with_answer told rest)
+taken_then : (told : Answer) (rest : List Answer) → IsTakenBack told → GoesThen 0 IsTakenBack (with_answer told rest)
 taken_then Answer.Undone rest is = tt
 taken_then Answer.Aborted rest is = tt
 taken_then other rest is = absurd is
 
+-- a step is left, at least, of each
+some_left : (path : AccessPath) (root : ℕ) (reply : Option ObjReply) (view : View) → 1 ≤ steps_by path root reply view
+some_left (One walk) root reply view = omega arith
+some_left (Two two_records) root (Some told) view = omega arith
+some_left (Two (First pair)) root None view = omega arith
+some_left (Two (Owing pair told)) root None view = omega arith
+some_left (Two (Wide WideStage.Own walk)) root None view = omega arith
+some_left (Two (Wide WideStage.Size walk)) root None view = omega arith
+
+last_steps : (context : WalkContext) (last : ObjOp × ObjReply) (o : OperationFields) (t : Transaction) (seen : View) (steps : List OwnStep) → Inverts last o t → steps_left context.root o seen ≡ 1
+    → AreOwnSteps (one_key context) t seen steps → GoesThen 0 IsTakenBack (answers_of steps)
+last_steps context last o t seen [] inv left own = tt
+last_steps context last o t seen (step ∷ more) inv left own = elim (back_step (one_key context) last o t step inv own.1) [
+  | inl stays ↦ then_after step.told 0 0 IsTakenBack (answers_of more) (stays.waits 0)
+      (last_steps (one_key context) last o step.after (view_in step.after step.new) more stays.runs (ap (steps_left context.root o) (stays.same ∙ own.0) ∙ left) own.2)
+  | inr (inl back) ↦
+      let some = some_left back.goes.next.access_path context.root back.goes.next.reply (view_in step.after step.new) in
+      let was : steps_left context.root o (view_in t step.old) ≡ 1 = ap (steps_left context.root o) own.0 ∙ left in
+      absurd (omega (arith, back.on.fewer, some, was))
+  | inr (inr end) ↦ taken_then step.told (answers_of more) end.taken
+]
+
+-- **The steps of an inverse.**
+pub inverse_runner : (context : WalkContext) (last : ObjOp × ObjReply) → Runner (one_key context) (Inverts last) IsTakenBack
+inverse_runner context last = record {
+  step = λ o t own inv untold tells. elim (back_step (one_key context) last o t own inv tells) [
+    | inl stays ↦ inl stays
+    | inr (inl back) ↦ inr (inl back.goes)
+    | inr (inr end) ↦ absurd (end.told untold)
+  ];
+  ends = λ o t seen steps inv told left own. last_steps (one_key context) last o t seen steps inv left own;
+}
+
+-- the inverse is to begin
+pub to_begin : (t : Transaction) (last : ObjOp × ObjReply) (o : OperationFields) → IsToTakeBack t last → IsSome (inverse_of last) → started_for (TakeBack last) ≡ o
+    → IsInFirst o.access_path → Inverts last o t
+to_begin t last o to some is first = record { inverting = None; undoing = to.undoing; front = to.front; entries = to.entries; begins = λ none. some; is = is; first = first }
+
 -- one without an inverse
-fast : (context : WalkContext) (t : Transaction) (last : ObjOp × ObjReply) (seen : View) (step : OwnStep) (more : List OwnStep) → IsToTakeBack t last → inverse_of last ≡ None
-    → (told : Answer) → step.told ≡ told → StepsBack (context_at (one_key context) step) None t step.after step.old step.new told → IsTakenBack step.told
-fast context t last seen step more to none Answer.Going is s =
-    let same : s.tells.last ≡ last = one_last t.undo.entries s.tells.front to.front s.tells.last last s.tells.entries to.entries in
-    not_both (inverse_of s.tells.last) (s.tells.begins refl) (ap inverse_of same ∙ none)
-fast context t last seen step more to none (Answer.Waiting page by) is s =
-    let same : s.tells.last ≡ last = one_last t.undo.entries s.tells.front to.front s.tells.last last s.tells.entries to.entries in
-    not_both (inverse_of s.tells.last) (s.tells.begins refl) (ap inverse_of same ∙ none)
-fast context t last seen step more to none Answer.Undone is s = subst IsTakenBack (sym is) tt
-fast context t last seen step more to none Answer.Aborted is s = subst IsTakenBack (sym is) tt
-fast context t last seen step more to none (Answer.Blocked by) is s = absurd s.tells
-fast context t last seen step more to none (Answer.Done reply) is s = absurd s.tells
-fast context t last seen step more to none (Answer.Refused reason) is s = absurd s.tells
+module _ (context : WalkContext) (t : Transaction) (last : ObjOp × ObjReply) (step : OwnStep) (to : IsToTakeBack t last) (none : inverse_of last ≡ None) where
+  none_begins : {A : Type 0} (next : Option OperationFields) (Is : OperationFields → OperationFields → Type 0) → InverseSteps None next t.undo step.after.undo step.old step.new Is → A
+  none_begins next Is w = not_both (inverse_of w.last) (w.begins refl) (ap inverse_of (one_last t.undo.entries w.front to.front w.last last w.entries to.entries) ∙ none)
+
+  at_once : (told : Answer) → StepsBack (context_at (one_key context) step) None t step.after step.old step.new told → IsTakenBack told
+  at_once Answer.Undone s = tt
+  at_once Answer.Aborted s = tt
+  at_once Answer.Going s = none_begins s.next _ s.tells
+  at_once (Answer.Waiting page by) s = none_begins s.next _ s.tells
+  at_once other s = absurd s.tells
 
 pub without_inverse : (context : WalkContext) (t : Transaction) (last : ObjOp × ObjReply) (seen : View) (steps : List OwnStep) → IsToTakeBack t last → AreOwnSteps (one_key context) t seen steps → inverse_of last ≡ None → GoesThen 0 IsTakenBack (answers_of steps)
 without_inverse context t last seen [] to own none = tt
 without_inverse context t last seen (step ∷ more) to own none =
-    taken_then step.told (answers_of more)
-    (fast (one_key context) t last seen step more to none step.told refl
+    taken_then step.told (answers_of more) (at_once (one_key context) t last step to none step.told
     (subst (λ (a : At). TellsAt a (context_at (one_key context) step) t step.after step.old step.new step.told) to.undoing own.1))
-
--- the inverse is to begin
-pub to_begin : (t : Transaction) (last : ObjOp × ObjReply) → IsToTakeBack t last → IsSome (inverse_of last) → Undoes None last t
-to_begin t last to some = record { undoing = to.undoing; front = to.front; entries = to.entries; begins = λ none. some }

@@ -1,13 +1,8 @@
--- The passes of an operation on two records; and of any operation
-use Rattle.std.proofs.Common.{◌≡◌, ℕ, List, Option, None, Some, IsSome, is_some, refl, ap, ◌∙◌}
-use Rattle.mlt_tx_step_counts.proofs.Names.{ObjOp, ObjReply, Do, TakeBack, size_key_of, View, WalkContext, one_key, access_path_for, started_for, At, Transaction, IsToTakeBack, TakesWidePassOfTwo, AreOwnSteps, OwnStep}
-use Rattle.mlt_tx_step_counts.specs.CountsOfTwo.{TakesBackBy, TakesBackOf, TakesFirstPassOfTwo, TakesPassBy, TakesPassOf}
-use Rattle.mlt_tx_step_counts.proofs.{FirstOfTwo.first_of_two, Inverses.taken_back, InversesOfTwo.taken_back_of_two, Passes.first_pass, WideOfTwo.wide_of_two}
-
--- **A first pass on two records, and the wide one that may follow.**
-pub first_pass_of_two : (context : WalkContext) (op : ObjOp) (t : Transaction) (seen : View) (steps : List OwnStep) → IsSome (size_key_of (Do op)) → t.at ≡ At.Pending (started_for (Do op)) → AreOwnSteps (one_key context) t seen steps
-    → TakesFirstPassOfTwo (one_key context) op steps
-first_pass_of_two context op t seen steps two pending own = first_of_two (one_key context) op (TakesWidePassOfTwo (one_key context)) (wide_of_two (one_key context) op) t seen steps two pending own
+-- The passes of any operation, and of its inverse
+use Rattle.std.proofs.Common.{◌≡◌, ℕ, List, Option, None, Some, is_some, refl, ap, ◌∙◌}
+use Rattle.mlt_tx_step_counts.proofs.Names.{ObjOp, ObjReply, Do, TakeBack, size_key_of, View, WalkContext, one_key, access_path_for, started_for, At, Transaction, IsToTakeBack, AreOwnSteps, OwnStep}
+use Rattle.mlt_tx_step_counts.specs.CountsOfTwo.{TakesBackBy, TakesBackOf, TakesPassBy, TakesPassOf}
+use Rattle.mlt_tx_step_counts.proofs.{FirstOfTwo.first_pass_of_two, Inverses.taken_back, InversesOfTwo.taken_back_of_two, Passes.first_pass}
 
 -- **The first pass of any operation.**
 pub pass_of : (context : WalkContext) (op : ObjOp) (t : Transaction) (seen : View) (steps : List OwnStep) → t.at ≡ At.Pending (started_for (Do op)) → AreOwnSteps (one_key context) t seen steps → TakesPassOf (one_key context) op steps
