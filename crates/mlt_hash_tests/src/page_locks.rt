@@ -12,14 +12,14 @@ use std::test::Fail;
 
 /// Page locks with room for 64 transactions, and how often one was asked for.
 #[derive(Drop)]
-struct Desk {
+struct PageDesk {
     locks: PageLocks,
     asked: u32,
     ghost few: { HasAtMost asked locks },
     ghost room: { locks.max_open ≡ 64 },
 }
 
-impl Desk {
+impl PageDesk {
     fn ask(&mut self, rt: &impl Abort, tx: u64, page: u32, mode: Mode) -> Grant {
         assert!(rt; self.asked < 64);
         self.asked += 1;
@@ -31,9 +31,9 @@ impl Desk {
     }
 }
 
-fn new_desk(alloc: Global) -> Result<Desk, Refusal> {
+fn new_desk(alloc: Global) -> Result<PageDesk, Refusal> {
     let locks = PageLocks::new(alloc, &Limits::program())?;
-    Ok(Desk { locks, asked: 0 })
+    Ok(PageDesk { locks, asked: 0 })
 }
 
 // Requests for page 9, each with the transaction that it waits for; where there is no mode, the transaction is closed.

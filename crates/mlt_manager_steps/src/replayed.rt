@@ -12,7 +12,7 @@ use std::collections::BTreeMap;
 
 /// An open transaction.
 #[derive(Drop)]
-pub(crate) struct OpenTx {
+pub(crate) struct ReplayedTx {
     /// All that it did, in order, undone or not: it holds this up to its end.
     pub(crate) held: Vec<Done>,
     /// How many of these, from the first one on, stand: it does nothing more once it has undone one.
@@ -28,7 +28,7 @@ pub(crate) struct OpenTx {
 pub(crate) struct ReplayedState {
     pub(crate) alloc: Global,
     base: Base,
-    txs: BTreeMap<u64, OpenTx>,
+    txs: BTreeMap<u64, ReplayedTx>,
     // How many items the history had behind the last event.
     count: usize,
 }
@@ -70,7 +70,7 @@ impl ReplayedState {
     fn take(&mut self, item: &TraceItem) -> Result<(), Refusal> {
         match item {
             TraceItem::Begin(tx) => {
-                let one = OpenTx {
+                let one = ReplayedTx {
                     held: Vec::new(self.alloc),
                     standing: 0,
                     pending: None,
@@ -125,7 +125,7 @@ impl ReplayedState {
     }
 
     /// What an open transaction did.
-    pub(crate) fn tx(&self, tx: TxId) -> Option<&OpenTx> {
+    pub(crate) fn tx(&self, tx: TxId) -> Option<&ReplayedTx> {
         self.txs.get(&tx.0)
     }
 

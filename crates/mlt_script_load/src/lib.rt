@@ -6,4 +6,4 @@
 mod object;
 mod spelling;
 
-pub use spelling::{Form, Load, spell_base};
+pub use spelling::{Form, SpelledBase, spell_base};

@@ -22,7 +22,7 @@ pub enum Form {
 
 /// The transactions that make a base, and their answers.
 #[derive(Drop)]
-pub struct Load {
+pub struct SpelledBase {
     /// The scripts, or the lines of the session.
     pub text: String,
     /// What a new manager answers them, where there is room and memory.
@@ -31,7 +31,7 @@ pub struct Load {
     lines: Vec<u64>,
 }
 
-impl Load {
+impl SpelledBase {
     /// The number of the line of the base to which an answer belongs, the answers counted from 0.
     pub fn line_of(&self, answer: usize) -> u64 {
         self.lines.get(answer).copied().unwrap_or(0)
@@ -43,7 +43,7 @@ impl Load {
 /// # Errors
 /// `ScriptFault`, where a line is none of a base, with its number: `Line` and `Words` as for a script, `Place` where the object stands
 /// before that of an earlier line, or is the same. `OutOfMemory`, where a growth was refused.
-pub fn spell_base(alloc: Global, text: &[u8], form: Form) -> Result<Load, Refusal> {
+pub fn spell_base(alloc: Global, text: &[u8], form: Form) -> Result<SpelledBase, Refusal> {
     let mut speller = Speller::new(alloc, form);
     let mut last = None;
     let mut line: u64 = 0;
@@ -87,7 +87,7 @@ fn fault(line: u64, cause: ScriptCause) -> Refusal {
 /// What is spelled so far.
 #[derive(Drop)]
 struct Speller {
-    load: Load,
+    load: SpelledBase,
     form: Form,
     /// How many transactions there are.
     transactions: u64,
@@ -98,7 +98,7 @@ struct Speller {
 impl Speller {
     fn new(alloc: Global, form: Form) -> Speller {
         Speller {
-            load: Load {
+            load: SpelledBase {
                 text: String::new(alloc),
                 answers: String::new(alloc),
                 lines: Vec::new(alloc),

@@ -12,7 +12,7 @@ use crate::guarded_desk::GuardedDesk;
 use crate::operating::Load;
 use crate::service::Service;
 use crossbeam_channel::Receiver;
-use mlt_serve_connections::{Admission, Failure, Outside, Socket, lingering_close};
+use mlt_serve_connections::{Admission, Outside, Socket, SocketFailure, lingering_close};
 use mlt_serve_seats::{Cut, Note, Seat};
 use mlt_serve_session::{Receipts, Summary, session};
 use mlt_types::{Pseudo, Refusal};
@@ -267,10 +267,10 @@ fn shared(
 }
 
 /// Why a session was cut that ended so, where its socket failed so, if it was cut.
-fn cut_of(ended: Result<Summary, Refusal>, failure: Option<Failure>) -> Option<Cut>
+fn cut_of(ended: Result<Summary, Refusal>, failure: Option<SocketFailure>) -> Option<Cut>
     ensures memory { ended ≡ Err Refusal.OutOfMemory → result ≡ Some Cut.Memory }
     ensures line { ended ≡ Err Refusal.LineTooLong → result ≡ Some Cut.Line }
-    ensures http { ended ≡ Err Refusal.Io → failure ≡ Some Failure.Http
+    ensures http { ended ≡ Err Refusal.Io → failure ≡ Some SocketFailure.Http
         → result ≡ Some Cut.Http }
     ensures none { IsOk ended → result ≡ None }
 {
@@ -278,9 +278,9 @@ fn cut_of(ended: Result<Summary, Refusal>, failure: Option<Failure>) -> Option<C
         (Ok(_), _) => None,
         (Err(Refusal::OutOfMemory), _) => Some(Cut::Memory),
         (Err(Refusal::LineTooLong), _) => Some(Cut::Line),
-        (Err(_), Some(Failure::Idle)) => Some(Cut::Idle),
-        (Err(_), Some(Failure::Http)) => Some(Cut::Http),
-        (Err(_), Some(Failure::Broken)) => Some(Cut::Connection),
+        (Err(_), Some(SocketFailure::Idle)) => Some(Cut::Idle),
+        (Err(_), Some(SocketFailure::Http)) => Some(Cut::Http),
+        (Err(_), Some(SocketFailure::Broken)) => Some(Cut::Connection),
         (Err(_), None) => Some(Cut::Bytes),
     }
 }

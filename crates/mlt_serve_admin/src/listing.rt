@@ -16,25 +16,25 @@ const MOST_OBJECTS: usize = 1_000;
 /// What is asked for: the objects of a kind, or the elements of a set, from a number on.
 #[derive(Clone, Copy)]
 pub(crate) struct Listing {
-    kind: Kind,
+    kind: ListedKind,
     from: u32,
 }
 
 /// Of which kind they are.
 #[derive(Clone, Copy)]
-enum Kind {
+enum ListedKind {
     Accounts,
     Elements(u16),
     Counters,
 }
 
-impl Kind {
+impl ListedKind {
     /// The number of the key of this object.
     fn key(self, number: u32) -> u64 {
         let cell = match self {
-            Kind::Accounts => Cell::Account(number),
-            Kind::Elements(set) => Cell::Element(set, number),
-            Kind::Counters => Cell::Counter(number),
+            ListedKind::Accounts => Cell::Account(number),
+            ListedKind::Elements(set) => Cell::Element(set, number),
+            ListedKind::Counters => Cell::Counter(number),
         };
         Key::of(&cell).number()
     }
@@ -45,9 +45,9 @@ impl Listing {
     /// begin later. `None`, where it is none of these.
     pub(crate) fn read(query: &str) -> Option<Listing> {
         let kind = match value_of(query, "kind=")?.as_bytes() {
-            b"account" => Kind::Accounts,
-            b"counter" => Kind::Counters,
-            b"set" => Kind::Elements(value_of(query, "of=")?.parse::<u16>().ok()?),
+            b"account" => ListedKind::Accounts,
+            b"counter" => ListedKind::Counters,
+            b"set" => ListedKind::Elements(value_of(query, "of=")?.parse::<u16>().ok()?),
             _ => return None,
         };
         let from = value_of(query, "from=").unwrap_or("0");
@@ -69,7 +69,7 @@ impl Listing {
             first: self.kind.key(self.from),
             last: self.kind.key(u32::MAX),
         };
-        let has_values = !matches!(self.kind, Kind::Elements(_));
+        let has_values = !matches!(self.kind, ListedKind::Elements(_));
         let found = operated.objects(alloc, &range, MOST_OBJECTS + 1)?;
         let mut objects = Vec::new(alloc);
         for object in found.iter().take(MOST_OBJECTS) {

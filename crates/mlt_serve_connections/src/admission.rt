@@ -1,6 +1,6 @@
 //! The way of one session through the admission queue, and what it waits for before it begins a transaction.
 
-use crate::admission_queue::{AdmissionQueue, Pass};
+use crate::admission_queue::{AdmissionPass, AdmissionQueue};
 use crate::lines::is_one_line;
 use crate::socket::Socket;
 use crate::tuning::EVENTS_PER_TURN;
@@ -21,7 +21,7 @@ pub struct Admission<'a, R: Wait + Clock> {
     rt: &'a R,
     admission_queue: &'a AdmissionQueue,
     /// None where it is outside.
-    pass: Cell<Option<Pass>>,
+    pass: Cell<Option<AdmissionPass>>,
     /// How many events it has made since it went to work.
     events: Cell<u32>,
     /// Whether its last transaction gave up. Then it pauses outside before the next one: clients that try again at once would
@@ -71,7 +71,7 @@ impl<'a, R: Wait + Clock> Admission<'a, R> {
     }
 
     /// Has this pass from now on, and gives back the one that it had.
-    fn take_pass(&self, pass: Option<Pass>) {
+    fn take_pass(&self, pass: Option<AdmissionPass>) {
         if let Some(used) = self.pass.replace(pass) {
             self.admission_queue.leave(self.rt, used);
         }

@@ -7,7 +7,7 @@ use std::thread;
 use std::time::{Clock, Duration};
 
 /// With it a session is at work. It can't be dropped: the queue takes it back.
-pub(crate) enum Pass {
+pub(crate) enum AdmissionPass {
     /// Of a session that bypassed the queue.
     Bypassing,
     /// Of one that was admitted in its turn.
@@ -34,16 +34,16 @@ pub struct AdmissionQueue {
 
 impl AdmissionQueue {
     /// Goes to work, at once where few do so at the moment, and else in its turn.
-    pub(crate) fn enter<R: Wait>(&self, rt: &R) -> Pass {
+    pub(crate) fn enter<R: Wait>(&self, rt: &R) -> AdmissionPass {
         if self.bypassing.fetch_add(1, Ordering::SeqCst) < MOST_BYPASSING {
-            return Pass::Bypassing;
+            return AdmissionPass::Bypassing;
         }
         self.bypassing.fetch_sub(1, Ordering::SeqCst);
         self.queue(rt)
     }
 
     /// Goes to work once there is room, and all sessions that queued before are admitted or have left.
-    pub(crate) fn queue<R: Wait>(&self, rt: &R) -> Pass {
+    pub(crate) fn queue<R: Wait>(&self, rt: &R) -> AdmissionPass {
         let number = self.come.fetch_add(1, Ordering::SeqCst);
         if !self.is_admitted(number) {
             let lock = self.lock.lock(rt);
@@ -51,16 +51,16 @@ impl AdmissionQueue {
                 .condvar(number)
                 .wait_while(rt, lock, |_| !self.is_admitted(number));
         }
-        Pass::Admitted
+        AdmissionPass::Admitted
     }
 
     /// Is at work no more. Where it had queued the next one that waits is admitted.
-    pub(crate) fn leave<R: Wait>(&self, rt: &R, pass: Pass) {
+    pub(crate) fn leave<R: Wait>(&self, rt: &R, pass: AdmissionPass) {
         match pass {
-            Pass::Bypassing => {
+            AdmissionPass::Bypassing => {
                 self.bypassing.fetch_sub(1, Ordering::SeqCst);
             }
-            Pass::Admitted => {
+            AdmissionPass::Admitted => {
                 let lock = self.lock.lock(rt);
                 let left = self.left.fetch_add(1, Ordering::SeqCst);
                 drop(lock);

@@ -18,5 +18,5 @@ pub use accepting::{Accepted, accept, refuse_all};
 pub use admission::{Admission, Outside};
 pub use admission_queue::AdmissionQueue;
 pub use closing::lingering_close;
-pub use socket::{Failure, Socket};
+pub use socket::{Socket, SocketFailure};
 pub use spin_policy::SpinPolicy;

@@ -16,7 +16,7 @@ use std::time::{Clock, Duration, Instant};
 
 /// How a read or a write failed.
 #[derive(Clone, Copy)]
-pub enum Failure {
+pub enum SocketFailure {
     /// No whole line came, or nothing could go, for the idle time.
     Idle,
     /// The first line was that of an HTTP request.
@@ -45,7 +45,7 @@ pub struct Socket<'a, C: Clock> {
     /// Whether its first line has come.
     has_begun: Cell<bool>,
     /// How the last one that failed did.
-    failed: Cell<Option<Failure>>,
+    failed: Cell<Option<SocketFailure>>,
 }
 
 impl<'a, C: Clock> Socket<'a, C> {
@@ -74,7 +74,7 @@ impl<'a, C: Clock> Socket<'a, C> {
     }
 
     /// How the last read or write that failed did, if one did.
-    pub fn failure(&self) -> Option<Failure> {
+    pub fn failure(&self) -> Option<SocketFailure> {
         self.failed.get()
     }
 
@@ -186,7 +186,7 @@ impl<'a, C: Clock> Socket<'a, C> {
         self.since.set(None);
         self.note(&written);
         if let Ok(0) = written {
-            self.failed.set(Some(Failure::Broken));
+            self.failed.set(Some(SocketFailure::Broken));
         }
         written
     }
@@ -247,11 +247,11 @@ impl<'a, C: Clock> Socket<'a, C> {
 }
 
 /// How one failed of this kind.
-fn failure_of(kind: ErrorKind) -> Failure {
+fn failure_of(kind: ErrorKind) -> SocketFailure {
     match kind {
-        ErrorKind::WouldBlock | ErrorKind::TimedOut => Failure::Idle,
-        ErrorKind::InvalidData => Failure::Http,
-        _ => Failure::Broken,
+        ErrorKind::WouldBlock | ErrorKind::TimedOut => SocketFailure::Idle,
+        ErrorKind::InvalidData => SocketFailure::Http,
+        _ => SocketFailure::Broken,
     }
 }
 

@@ -3,7 +3,7 @@
 use crate::histogram::{Histogram, SharedHistogram};
 use crate::note::Cut;
 use crate::presence::{is_broken, is_read_out};
-use crate::session::{Activity, Ended};
+use crate::session::{EndedSpans, SessionActivity};
 use crate::totals::Totals;
 use crossbeam_utils::CachePadded;
 use mlt_types::TxId;
@@ -37,7 +37,7 @@ pub struct SessionState {
     /// The number of the transaction that it has begun last, whether or not that is shown; 0 before the first.
     pub last: TxId,
     /// What it has shown.
-    pub activity: Activity,
+    pub activity: SessionActivity,
 }
 
 /// A session, with its connection.
@@ -55,13 +55,13 @@ struct Session {
 /// What a session thread has shown, and the session that it serves.
 #[derive(Default, Drop)]
 struct Record {
-    activity: Activity,
+    activity: SessionActivity,
     session: Option<Session>,
 }
 
 /// How long the transactions of sessions took, and their waits.
 #[derive(Clone, Copy, Default)]
-pub struct Times {
+pub struct SessionTimes {
     /// From when others first saw a transaction, which is the first answer behind its begin, to its end; 0, where they did not.
     pub transactions: Histogram,
     /// From when an operation was first told to wait to when it was told something else.
@@ -87,9 +87,9 @@ impl Seat {
         self.hurries.store(false, Ordering::Relaxed);
         self.last.store(0, Ordering::Relaxed);
         let mut record = self.record.lock(rt);
-        record.activity = Activity {
+        record.activity = SessionActivity {
             totals: record.activity.totals,
-            ..Activity::default()
+            ..SessionActivity::default()
         };
         record.session = Some(Session {
             client,
@@ -121,7 +121,7 @@ impl Seat {
     }
 
     /// Adds the time of a wait, or of a transaction, that has ended. A transaction that others have not seen has taken none.
-    pub(crate) fn time<R: Wait + Clock>(&self, rt: &R, ended: &Ended) {
+    pub(crate) fn time<R: Wait + Clock>(&self, rt: &R, ended: &EndedSpans) {
         let now = ended.is_seen().then(|| Instant::now(rt).ok()).flatten();
         if let Some(wait) = ended.wait {
             self.wait_times.add(wait.since, now);
@@ -132,12 +132,12 @@ impl Seat {
     }
 
     /// What the thread has shown.
-    pub(crate) fn activity<R: Wait>(&self, rt: &R) -> Activity {
+    pub(crate) fn activity<R: Wait>(&self, rt: &R) -> SessionActivity {
         self.record.lock(rt).activity
     }
 
     /// Shows what the thread does. An operation that has ended is not to be given up any more.
-    pub(crate) fn show<R: Wait>(&self, rt: &R, activity: &Activity) {
+    pub(crate) fn show<R: Wait>(&self, rt: &R, activity: &SessionActivity) {
         let mut record = self.record.lock(rt);
         if record.activity.wait.is_some() && activity.wait.is_none() {
             let is_cut = matches!(&record.session, Some(session) if session.cut.is_some());
@@ -269,8 +269,8 @@ impl Seats {
     }
 
     /// The times at all seats.
-    pub fn times(&self) -> Times {
-        let mut times = Times::default();
+    pub fn times(&self) -> SessionTimes {
+        let mut times = SessionTimes::default();
         for seat in self.all() {
             seat.transaction_times.add_to(&mut times.transactions);
             seat.wait_times.add_to(&mut times.waits);

@@ -73,13 +73,13 @@ pub struct WaitState {
 
 /// A wait, or a transaction, that has ended.
 #[derive(Clone, Copy)]
-pub(crate) struct Ended {
+pub(crate) struct EndedSpans {
     pub(crate) wait: Option<WaitState>,
     /// Since when others have seen the transaction, if they have.
     pub(crate) transaction: Option<Option<Instant>>,
 }
 
-impl Ended {
+impl EndedSpans {
     /// Whether others see one of them.
     pub(crate) fn is_seen(&self) -> bool {
         self.wait.is_some() || matches!(self.transaction, Some(Some(_)))
@@ -88,7 +88,7 @@ impl Ended {
 
 /// What a session thread does. It alone changes this, and shows it to others.
 #[derive(Clone, Copy, Default)]
-pub struct Activity {
+pub struct SessionActivity {
     /// What the thread has counted, in all its sessions.
     pub totals: Totals,
     /// Its open transaction, where somebody is to see that.
@@ -99,7 +99,7 @@ pub struct Activity {
     pub wait: Option<WaitState>,
 }
 
-impl Activity {
+impl SessionActivity {
     /// Its operation is to wait. It is told whether nothing was read behind the line of that.
     pub(crate) fn wait(&mut self, is_last: bool) {
         self.wait = self.wait.or(Some(WaitState {
@@ -109,7 +109,7 @@ impl Activity {
     }
 
     /// An event that begins or ends something was told this. It answers what has ended so.
-    pub(crate) fn note(&mut self, told: &Told, is_watched: bool) -> Ended {
+    pub(crate) fn note(&mut self, told: &Told, is_watched: bool) -> EndedSpans {
         let wait = self.wait.take();
         let since = self.transaction_since();
         let op = self.op.take();
@@ -138,7 +138,7 @@ impl Activity {
             _ => (),
         }
         let transaction = since.filter(|_| self.transaction.is_none());
-        Ended { wait, transaction }
+        EndedSpans { wait, transaction }
     }
 
     fn finish(&mut self, op: Option<ObjOp>, reply: ObjReply) {

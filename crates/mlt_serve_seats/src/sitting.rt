@@ -1,7 +1,7 @@
 //! A session at its seat, as its own thread sees it.
 
 use crate::seat::Seat;
-use crate::session::Activity;
+use crate::session::SessionActivity;
 use crate::totals::add_one;
 use mlt_event::{Answer, Told};
 use mlt_object_kinds::ObjOp;
@@ -16,7 +16,7 @@ pub struct Sitting<'a, R: Wait + Clock> {
     seat: &'a Seat,
     /// Whether others are to see its transactions, and not only waits.
     is_watched: bool,
-    activity: RefCell<Activity>,
+    activity: RefCell<SessionActivity>,
     /// Whether what was read last is one line.
     is_one_line: Cell<bool>,
     /// Whether others see all that it has done.
@@ -37,7 +37,7 @@ impl<'a, R: Wait + Clock> Sitting<'a, R> {
     }
 
     /// What it does, to be changed. Nothing else has borrowed it.
-    fn activity(&self) -> Option<RefMut<'_, Activity>> {
+    fn activity(&self) -> Option<RefMut<'_, SessionActivity>> {
         self.is_shown.set(false);
         self.activity.try_borrow_mut().ok()
     }

@@ -1,7 +1,7 @@
 -- The outcome of the open transaction.
 use Rattle.std.proofs.Common.{◌≡◌, ℕ, List, [], ◌∷◌, ◌++◌, Option, Some, None, refl, sym, ap, ◌∙◌, append-nil}
 use Rattle.mlt_serve_session.proofs.Names.{ObjOp, ObjReply, End, Outcome, Committed, committed_noted, outcome_of}
-use Rattle.mlt_serve_session.specs.{declared.notes.Progress.Progress, declared.notes.SessionRecord.SessionRecord, declared.receipts.Receipts.Ghosts, Noting.pending, Noting.at_last, Noting.outcomes_in, Turns.start}
+use Rattle.mlt_serve_session.specs.{declared.notes.SessionProgress.SessionProgress, declared.notes.SessionRecord.SessionRecord, declared.receipts.Receipts.Ghosts, Noting.pending, Noting.at_last, Noting.outcomes_in, Turns.start}
 
 pub at_last_end : (f : Outcome → Outcome) (rs : List Outcome) (r : Outcome) → at_last f (rs ++ r ∷ []) ≡ rs ++ f r ∷ []
 at_last_end f [] r = refl
@@ -30,4 +30,4 @@ closed client number tx n after open_tx open_after done new rs ss e none s =
 
 -- where nothing was read none is open
 pub none_pending : {K : Type 0} {of : Ghosts K} (client : ℕ) (notes : SessionRecord K of) → notes.progress ≡ start → outcomes_in client notes ≡ of.receipts notes.outcomes
-none_pending {of = of} client notes fresh = ap (λ (r : Progress). of.receipts notes.outcomes ++ pending client r.begun r.tx notes.done.items) fresh ∙ append-nil (of.receipts notes.outcomes)
+none_pending {of = of} client notes fresh = ap (λ (r : SessionProgress). of.receipts notes.outcomes ++ pending client r.begun r.tx notes.done.items) fresh ∙ append-nil (of.receipts notes.outcomes)

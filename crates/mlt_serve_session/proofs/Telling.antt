@@ -3,12 +3,12 @@ use Rattle.std.proofs.Common.{◌≡◌, ◌⊎◌, inl, inr, ℕ, ◌+◌, List
 use Rattle.std.proofs.{Math.Bool.or-false, lemmas.Bool.cond_both}
 use Rattle.mlt_types.specs.declared.refusal.Refusal.{Refusal, TheVariants.Io, TheVariants.LineTooLong, TheVariants.OutOfMemory}
 use Rattle.mlt_serve_session.proofs.Names.{err_from_is_err_and, Appends-nil, Consumes-nil, All-nil, empty, Outcome, DeskAnswer, DeskCall, SessionLine, Says, TooLong, lines_in, Moves, GaveAll, begins_by, outcomes_of, Talked, Broken, BrokenHeard, AreLines, EndsInput, streams, Turn, turns, ends, open_after, call_for, TalkState, Goes, Asked}
-use Rattle.mlt_serve_session.{proofs.Giving.gave_all, proofs.Receiving.noted_by, proofs.Receiving.noted_all, proofs.Receiving.all_noted, specs.Desks.Answers, specs.Turns.start, specs.Turns.Step, specs.declared.notes.Progress.Progress, specs.declared.sessions.Summary.Summary}
+use Rattle.mlt_serve_session.{proofs.Giving.gave_all, proofs.Receiving.noted_by, proofs.Receiving.noted_all, proofs.Receiving.all_noted, specs.Desks.Answers, specs.Turns.start, specs.Turns.Step, specs.declared.notes.SessionProgress.SessionProgress, specs.declared.sessions.Summary.Summary}
 use Rattle.mlt_serve_session.specs.Sessions.{Acted, BrokenOff, HeardAll, Scene, SessionAnswers, Spoken, Summed, all_calls, all_answers}
 use Rattle.mlt_serve_session.specs.Talks.{one_turn, unless_ended, option_list, calls_in, answers_in, open_at_end, closing, closing_answers, session_turns, commits_in, ends_in, long_in, is_long}
 
 -- the turns that are left to a session: none where it is over
-abbrev turns_left : Progress → List SessionLine → List DeskAnswer → List Turn
+abbrev turns_left : SessionProgress → List SessionLine → List DeskAnswer → List Turn
 turns_left r ls answers = cond r.over [] (turns r.tx ls answers)
 
 long_ends : (l : SessionLine) → ends l ≡ false → is_long l ≡ false
@@ -31,7 +31,7 @@ module _ {D : Type 0} (moves : Moves D) (client : ℕ) where
       ∙ ap (λ b. turns b (t.line ∷ ls) (option_list t.answer ++ answers)) (sym s.before)
       ∙ one_case p m t.open_before t.line (call_for t.open_before t.line) t.answer answers (λ next more. turns next ls more) s.asked
       ∙ ap (λ b. t ∷ cond (ends t.line) [] (turns (open_after b t.answer) ls answers)) s.before
-      ∙ ap (λ (r : Progress). t ∷ turns_left r ls answers) (sym s.after)
+      ∙ ap (λ (r : SessionProgress). t ∷ turns_left r ls answers) (sym s.after)
 
   turns_go : (p q : TalkState D) (ts : List Turn) (more : List SessionLine) → Goes moves client p ts q → turns_left p.progress (lines_in ts ++ more) (answers_in ts) ≡ ts ++ turns_left q.progress more []
   turns_go p q [] more h = ap (λ m. turns_left m.progress more []) (sym h)
@@ -69,7 +69,7 @@ module _ {D : Type 0} (moves : Moves D) (client : ℕ) where
   counted p q [] h = (ap (λ m. m.progress.lines) h ∙ omega arith, ap (λ m. m.progress.commits) h ∙ omega arith)
   counted p q (t ∷ ts) h =
       let later = counted h.0 q ts h.2 in
-      (omega (arith, later.0, ap (λ (r : Progress). r.lines) h.1.after), omega (arith, later.1, ap (λ (r : Progress). r.commits) h.1.after))
+      (omega (arith, later.0, ap (λ (r : SessionProgress). r.lines) h.1.after), omega (arith, later.1, ap (λ (r : SessionProgress). r.commits) h.1.after))
 
   -- whether the session is over is whether it was or its turns say so, and so is whether a line was too long
   over_or_long : (p q : TalkState D) (ts : List Turn) → Goes moves client p ts q → (p.progress.over ≡ false → p.progress.long ≡ false)
@@ -85,7 +85,7 @@ module _ {D : Type 0} (moves : Moves D) (client : ℕ) where
 module _ {D : Type 0} (moves : Moves D) (client : ℕ) (old new : Scene D) (p q : TalkState D) (fresh : p.progress ≡ start) (same : p.desk ≡ old.desk) (before : p.outcomes ≡ old.outcomes)
     (after : new.outcomes ≡ q.outcomes) (closed : Answers moves q.desk (closing q.progress.tx) (closing_answers q.progress.tx) new.desk) where
   told_turns : (ts : List Turn) (more : List SessionLine) → Goes moves client p ts q → turns None (lines_in ts ++ more) (answers_in ts) ≡ ts ++ turns_left q.progress more []
-  told_turns ts more h = ap (λ (r : Progress). turns_left r (lines_in ts ++ more) (answers_in ts)) (sym fresh) ∙ turns_go moves client p q ts more h
+  told_turns ts more h = ap (λ (r : SessionProgress). turns_left r (lines_in ts ++ more) (answers_in ts)) (sym fresh) ∙ turns_go moves client p q ts more h
 
   -- the turns that were heard are those of their lines and answers
   heard_turns : (ts : List Turn) → Goes moves client p ts q → turns None (lines_in ts) (answers_in ts) ≡ ts

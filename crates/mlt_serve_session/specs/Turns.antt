@@ -2,12 +2,12 @@
 use Rattle.std.specs.Prelude.{◌≡◌, ◌<◌, ◌≤◌, ◌^◌, ℕ, ◌+◌, List, [], ◌∷◌, Option, Some, None, false}
 use Rattle.mlt_script_serial.specs.{declared.outcome.Outcome.Outcome, declared.call.DeskAnswer.DeskAnswer, declared.call.DeskCall.DeskCall, Calls.Moves}
 use Rattle.mlt_event_text.specs.declared.session_line.SessionLine.{SessionLine}
-use Rattle.mlt_serve_session.specs.{declared.said.Said.Said, declared.notes.SessionRecord.SessionRecord, declared.receipts.Receipts.Ghosts, declared.notes.Progress.Progress, Noting.outcomes_in, Noting.noted, Outcomes.begins_by, Desks.Moved}
+use Rattle.mlt_serve_session.specs.{declared.said.Said.Said, declared.notes.SessionRecord.SessionRecord, declared.receipts.Receipts.Ghosts, declared.notes.SessionProgress.SessionProgress, Noting.outcomes_in, Noting.noted, Outcomes.begins_by, Desks.Moved}
 use Rattle.mlt_serve_session.specs.Talks.{Turn, call_for, said_by, ends, is_long, open_after, commits_by}
 
 -- how far a session is, its desk and its outcomes
 pub record TalkState (D : Type 0) : Type 0 where
-  pub progress : Progress
+  pub progress : SessionProgress
   pub desk : D
   pub outcomes : List Outcome
 
@@ -16,11 +16,11 @@ talk_state client notes desk =
     record { progress = notes.progress; desk = desk; outcomes = outcomes_in client notes }
 
 -- a session of which nothing was read
-abbrev pub start : Progress
+abbrev pub start : SessionProgress
 start = record { tx = None; lines = 0; commits = 0; begun = 0; over = false; long = false }
 
 -- how far a session is after what the desk answered, if it was asked
-abbrev pub after_answer : Progress → Option DeskAnswer → Progress
+abbrev pub after_answer : SessionProgress → Option DeskAnswer → SessionProgress
 after_answer p answer =
     record {
       tx = open_after p.tx answer;
@@ -32,11 +32,11 @@ after_answer p answer =
     }
 
 -- how far a session is after a line was answered
-abbrev pub after_line : Progress → SessionLine → Progress
+abbrev pub after_line : SessionProgress → SessionLine → SessionProgress
 after_line p line = record p { lines = p.lines + 1; over = ends line; long = is_long line }
 
 -- how far a session is after a turn
-abbrev pub after_turn : Progress → Turn → Progress
+abbrev pub after_turn : SessionProgress → Turn → SessionProgress
 after_turn p t = after_line (after_answer p t.answer) t.line
 
 -- the call was made and answered so, and noted
@@ -79,5 +79,5 @@ pub record TakesTurn {D : Type 0} (moves : Moves D) (client : ℕ) (p : TalkStat
   pub says : said ≡ said_by p.progress.tx line answer
 
 -- the counts of a session of fewer than 2 ^ 62 lines
-abbrev pub IsSmall : Progress → Type 0
+abbrev pub IsSmall : SessionProgress → Type 0
 IsSmall p = (p.lines < 2 ^ 62) × (p.commits ≤ p.lines) × (p.begun ≤ p.lines)

@@ -10,7 +10,7 @@ use std::alloc::Global;
 
 /// How far a session is.
 #[derive(Clone, Copy)]
-pub struct Progress {
+pub struct SessionProgress {
     /// The transaction that is open.
     pub tx: Option<TxId>,
     /// How many lines were answered.
@@ -30,7 +30,7 @@ pub struct Progress {
 #[derive(Drop)]
 pub struct SessionRecord<K: Receipts> {
     /// How far it is.
-    pub progress: Progress,
+    pub progress: SessionProgress,
     /// What was done in the transaction that is open, in order.
     pub done: Vec<Done>,
     /// Where the outcomes of the transactions that ended are.

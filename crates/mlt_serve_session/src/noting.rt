@@ -6,7 +6,7 @@ ghost use Rattle.mlt_serve_session.specs.Outcomes.{outcome_of};
 ghost use Rattle.mlt_serve_session.specs.Talks.{ends, is_long};
 ghost use Rattle.mlt_serve_session.specs.Turns.{after_line, start};
 
-use crate::notes::{Progress, SessionRecord};
+use crate::notes::{SessionProgress, SessionRecord};
 use crate::receipts::{EndedTx, Receipts};
 use mlt_event_text::{Command, SessionLine};
 use mlt_script_serial::End;
@@ -35,7 +35,7 @@ impl<K: Receipts> SessionRecord<K> {
         ensures outcomes { K.receipts result.outcomes ≡ K.receipts outcomes }
     {
         SessionRecord {
-            progress: Progress {
+            progress: SessionProgress {
                 tx: None,
                 lines: 0,
                 commits: 0,

@@ -7,7 +7,7 @@ use mlt_types::Low;
 use std::test::Fail;
 
 /// Events for a manager with such limits, what is written of them, and how many pages there are then.
-struct Schedule {
+struct EventRows {
     name: &'static str,
     bounds: Bounds,
     events: &'static str,
@@ -15,8 +15,8 @@ struct Schedule {
     pages: usize,
 }
 
-const SCHEDULES: &[Schedule] = &[
-    Schedule {
+const SCHEDULES: &[EventRows] = &[
+    EventRows {
         name: "refusals-in-order",
         bounds: (2, 3, 70_000, 16, 1),
         events: "begin\nbegin\nbegin\ncommit 9\nstep 1\n\
@@ -29,7 +29,7 @@ aborting\nrefused 4 Undoing\nrefused 4 Undoing\nrefused 4 Undoing\naborted\nrefu
 begun 3\nrefused 7 TooManyOpen\ncommitted 1\nrefused 6 NotRunning\nrefused 9 IdsSpent\naborted\ndepth 0\n",
         pages: 3,
     },
-    Schedule {
+    EventRows {
         name: "thirteen-splits",
         bounds: (64, 1 << 32, 70_000, 8, 1_024),
         events: "begin\nwhole 1 open 0\nwhole 1 open 1\nwhole 1 open 2\nwhole 1 open 3\n\
@@ -41,7 +41,7 @@ depth 0\n",
         pages: 3,
     },
     // The steps of the split stand in `tests/schedules.py`.
-    Schedule {
+    EventRows {
         name: "thirteen-splits-by-steps",
         bounds: (64, 1 << 32, 70_000, 16, 1_024),
         events: "begin\nwhole 1 open 0\nwhole 1 open 1\nwhole 1 open 2\nwhole 1 open 3\n\
@@ -52,7 +52,7 @@ account 0 0\naccount 1 0\naccount 2 0\naccount 3 0\naccount 4 0\naccount 5 0\nac
 depth 13\n",
         pages: 47,
     },
-    Schedule {
+    EventRows {
         name: "no-room-for-pages",
         bounds: (64, 1 << 32, 3, 16, 1_024),
         events: "begin\nwhole 1 open 0\nwhole 1 open 1\nwhole 1 open 2\nwhole 1 open 3\n\

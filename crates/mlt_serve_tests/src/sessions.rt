@@ -18,7 +18,7 @@ use std::test::Fail;
 
 /// A row: the limits of the manager, what transaction 1 has done where it is open beside the session, and what the session
 /// reads and writes.
-struct Row {
+struct SessionRow {
     name: &'static str,
     bounds: Bounds,
     beside: Option<&'static [ObjOp]>,
@@ -26,22 +26,22 @@ struct Row {
     text: &'static [u8],
 }
 
-const ROWS: &[Row] = &[
-    Row {
+const ROWS: &[SessionRow] = &[
+    SessionRow {
         name: "session-ids-spent",
         bounds: (64, 2, 70_000, 16, 1_024),
         beside: None,
         input: b"begin\ncommit\nbegin\ncommit\nbegin\n",
         text: b"begun 1\ncommitted 1\nbegun 2\ncommitted 2\nerror 9 IdsSpent\n",
     },
-    Row {
+    SessionRow {
         name: "session-log-full",
         bounds: (64, 1 << 32, 70_000, 16, 1),
         beside: None,
         input: b"begin\nup 7 1\nup 7 1\ncommit\n",
         text: b"begun 1\ndone\nerror 8 LogFull\ncommitted 1\n",
     },
-    Row {
+    SessionRow {
         name: "session-too-many-open",
         bounds: (1, 1 << 32, 70_000, 16, 1_024),
         beside: Some(&[]),
@@ -49,7 +49,7 @@ const ROWS: &[Row] = &[
         text: b"error 7 TooManyOpen\nerror 3 NoSuchTx\n",
     },
     // The balance is given up at its third Blocked, and then the transaction of the session is idle.
-    Row {
+    SessionRow {
         name: "tries-spent",
         bounds: (64, 1 << 32, 70_000, 16, 1_024),
         beside: Some(&[
@@ -72,7 +72,7 @@ fn begin<D: Desk>(desk: &mut D, ops: &[ObjOp]) -> Result<(), Refusal> {
 }
 
 // What the session writes, behind what transaction 1 did.
-fn talk<D: Desk>(alloc: Global, desk: &mut D, row: &Row) -> Result<Vec<u8>, Refusal> {
+fn talk<D: Desk>(alloc: Global, desk: &mut D, row: &SessionRow) -> Result<Vec<u8>, Refusal> {
     if let Some(ops) = row.beside {
         begin(desk, ops)?;
     }
@@ -90,7 +90,7 @@ fn said_over<L: MadeWith<Mult>>(
     records: BlankRecords,
     limits: Limits,
     pseudo: Mult,
-    row: &Row,
+    row: &SessionRow,
 ) -> Result<Vec<u8>, Refusal>
     requires name { records.blank.name ≡ L.name }
     requires parts { records.blank.parts ≡ L.parts }
@@ -110,7 +110,7 @@ fn said_over<L: MadeWith<Mult>>(
     text
 }
 
-fn said(rt: &impl Wait, alloc: Global, pseudo: Mult, row: &Row) -> Result<Vec<u8>, Refusal> {
+fn said(rt: &impl Wait, alloc: Global, pseudo: Mult, row: &SessionRow) -> Result<Vec<u8>, Refusal> {
     let limits = limits_of(row.bounds)?;
     let records = BlankRecords::new(alloc, 2)?;
     said_over::<Brand>(rt, alloc, records, limits, pseudo, row)

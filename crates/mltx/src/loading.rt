@@ -2,7 +2,7 @@
 
 use crate::failure::{Failure, Known, Subject};
 use crate::input::Input;
-use mlt_script_load::{Form, Load, spell_base};
+use mlt_script_load::{Form, SpelledBase, spell_base};
 use mlt_text::read_input;
 use mlt_text_words::after;
 use mlt_types::Refusal;
@@ -36,7 +36,7 @@ pub(crate) fn read_base(rt: &HostRuntime, file: &Option<String>) -> Result<Vec<u
 /// first, as long as these are the answers that make the base.
 #[derive(Drop)]
 pub(crate) struct Loading {
-    load: Load,
+    load: SpelledBase,
     /// How many bytes of the answers have come.
     at: usize,
     /// Why other answers came, if they did.

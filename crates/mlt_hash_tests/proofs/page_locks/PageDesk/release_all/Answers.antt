@@ -1,7 +1,7 @@
 use Rattle.std.proofs.Common.{ap, sym, subst, ◌∙◌}
 use Rattle.mlt_page_locks.specs.LockTables.{LockTable, HasAtMost}
 use Rattle.mlt_hash_tests.proofs.FewLocks.{few_released}
-use Rattle.mlt_hash_tests.proofs.page_locks.Desk.release_all.Goals as goal
+use Rattle.mlt_hash_tests.proofs.page_locks.PageDesk.release_all.Goals as goal
 
 pub invariant_of-self : goal.invariant_of-self
 invariant_of-self c =

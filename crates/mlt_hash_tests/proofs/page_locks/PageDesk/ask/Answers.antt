@@ -1,7 +1,7 @@
 use Rattle.std.proofs.Common.{◌∙◌, arith}
 use Rattle.mlt_page_locks.proofs.LockLaws.{room_for_few}
 use Rattle.mlt_hash_tests.proofs.FewLocks.{few_answered}
-use Rattle.mlt_hash_tests.proofs.page_locks.Desk.ask.Goals as goal
+use Rattle.mlt_hash_tests.proofs.page_locks.PageDesk.ask.Goals as goal
 
 pub ask-requires : goal.ask-requires
 ask-requires g c = let desk = c.args.self.now in
