@@ -82,19 +82,19 @@ asking_rest (By op l) = amount_rest op ++ Variable l ∷ []
 abbrev pub op_words : ObjOp → List Word
 op_words op = Key (op_key op) ∷ op_rest op
 
-pub op_is : (op : ObjOp) → FitsOp op → TextIs (op_text op) (op_words op) 60
-op_is (Account a AccountOp.Open) h = at_most _ _ 29 60 (omega arith) (beside (spelling Keyword.Open) (decimal a) (Key Keyword.Open ∷ []) (Number a ∷ []) 8 20 (key_text Keyword.Open) (number_is a (let p = h.0 in omega (arith, p))))
-op_is (Account a AccountOp.Close) h = at_most _ _ 29 60 (omega arith) (beside (spelling Keyword.Close) (decimal a) (Key Keyword.Close ∷ []) (Number a ∷ []) 8 20 (key_text Keyword.Close) (number_is a (let p = h.0 in omega (arith, p))))
-op_is (Account a (AccountOp.Deposit n)) h = at_most _ _ 50 60 (omega arith) (beside (spelling Keyword.Deposit ++ 32 ∷ decimal a) (decimal n) (Key Keyword.Deposit ∷ Number a ∷ []) (Number n ∷ []) 29 20 (beside (spelling Keyword.Deposit) (decimal a) (Key Keyword.Deposit ∷ []) (Number a ∷ []) 8 20 (key_text Keyword.Deposit) (number_is a (let p = h.0 in omega (arith, p)))) (number_is n (let p = h.1 in omega (arith, p))))
-op_is (Account a (AccountOp.Withdraw n)) h = at_most _ _ 50 60 (omega arith) (beside (spelling Keyword.Withdraw ++ 32 ∷ decimal a) (decimal n) (Key Keyword.Withdraw ∷ Number a ∷ []) (Number n ∷ []) 29 20 (beside (spelling Keyword.Withdraw) (decimal a) (Key Keyword.Withdraw ∷ []) (Number a ∷ []) 8 20 (key_text Keyword.Withdraw) (number_is a (let p = h.0 in omega (arith, p)))) (number_is n (let p = h.1 in omega (arith, p))))
-op_is (Account a AccountOp.Balance) h = at_most _ _ 29 60 (omega arith) (beside (spelling Keyword.Balance) (decimal a) (Key Keyword.Balance ∷ []) (Number a ∷ []) 8 20 (key_text Keyword.Balance) (number_is a (let p = h.0 in omega (arith, p))))
-op_is (Element s e ElementOp.Add) h = at_most _ _ 50 60 (omega arith) (beside (spelling Keyword.Add ++ 32 ∷ decimal s) (decimal e) (Key Keyword.Add ∷ Number s ∷ []) (Number e ∷ []) 29 20 (beside (spelling Keyword.Add) (decimal s) (Key Keyword.Add ∷ []) (Number s ∷ []) 8 20 (key_text Keyword.Add) (number_is s (let p = h.0 in omega (arith, p)))) (number_is e (let p = h.1 in omega (arith, p))))
-op_is (Element s e ElementOp.Remove) h = at_most _ _ 50 60 (omega arith) (beside (spelling Keyword.Remove ++ 32 ∷ decimal s) (decimal e) (Key Keyword.Remove ∷ Number s ∷ []) (Number e ∷ []) 29 20 (beside (spelling Keyword.Remove) (decimal s) (Key Keyword.Remove ∷ []) (Number s ∷ []) 8 20 (key_text Keyword.Remove) (number_is s (let p = h.0 in omega (arith, p)))) (number_is e (let p = h.1 in omega (arith, p))))
-op_is (Element s e ElementOp.Has) h = at_most _ _ 50 60 (omega arith) (beside (spelling Keyword.Has ++ 32 ∷ decimal s) (decimal e) (Key Keyword.Has ∷ Number s ∷ []) (Number e ∷ []) 29 20 (beside (spelling Keyword.Has) (decimal s) (Key Keyword.Has ∷ []) (Number s ∷ []) 8 20 (key_text Keyword.Has) (number_is s (let p = h.0 in omega (arith, p)))) (number_is e (let p = h.1 in omega (arith, p))))
-op_is (Counter c (CounterOp.Up n)) h = at_most _ _ 50 60 (omega arith) (beside (spelling Keyword.Up ++ 32 ∷ decimal c) (decimal n) (Key Keyword.Up ∷ Number c ∷ []) (Number n ∷ []) 29 20 (beside (spelling Keyword.Up) (decimal c) (Key Keyword.Up ∷ []) (Number c ∷ []) 8 20 (key_text Keyword.Up) (number_is c (let p = h.0 in omega (arith, p)))) (number_is n (let p = h.1 in omega (arith, p))))
-op_is (Counter c (CounterOp.Down n)) h = at_most _ _ 50 60 (omega arith) (beside (spelling Keyword.Down ++ 32 ∷ decimal c) (decimal n) (Key Keyword.Down ∷ Number c ∷ []) (Number n ∷ []) 29 20 (beside (spelling Keyword.Down) (decimal c) (Key Keyword.Down ∷ []) (Number c ∷ []) 8 20 (key_text Keyword.Down) (number_is c (let p = h.0 in omega (arith, p)))) (number_is n (let p = h.1 in omega (arith, p))))
-op_is (Counter c CounterOp.Read) h = at_most _ _ 29 60 (omega arith) (beside (spelling Keyword.Read) (decimal c) (Key Keyword.Read ∷ []) (Number c ∷ []) 8 20 (key_text Keyword.Read) (number_is c (let p = h.0 in omega (arith, p))))
-op_is (Size s) h = at_most _ _ 29 60 (omega arith) (beside (spelling Keyword.Size) (decimal s) (Key Keyword.Size ∷ []) (Number s ∷ []) 8 20 (key_text Keyword.Size) (number_is s (omega (arith, h))))
+pub op_is : (op : ObjOp) → FitsOp op → TextIs (op_text op) (op_words op) 50
+op_is (Account a AccountOp.Open) h = at_most _ _ 29 50 (omega arith) (beside (spelling Keyword.Open) (decimal a) (Key Keyword.Open ∷ []) (Number a ∷ []) 8 20 (key_text Keyword.Open) (number_is a (let p = h.0 in omega (arith, p))))
+op_is (Account a AccountOp.Close) h = at_most _ _ 29 50 (omega arith) (beside (spelling Keyword.Close) (decimal a) (Key Keyword.Close ∷ []) (Number a ∷ []) 8 20 (key_text Keyword.Close) (number_is a (let p = h.0 in omega (arith, p))))
+op_is (Account a (AccountOp.Deposit n)) h = beside (spelling Keyword.Deposit ++ 32 ∷ decimal a) (decimal n) (Key Keyword.Deposit ∷ Number a ∷ []) (Number n ∷ []) 29 20 (beside (spelling Keyword.Deposit) (decimal a) (Key Keyword.Deposit ∷ []) (Number a ∷ []) 8 20 (key_text Keyword.Deposit) (number_is a (let p = h.0 in omega (arith, p)))) (number_is n (let p = h.1 in omega (arith, p)))
+op_is (Account a (AccountOp.Withdraw n)) h = beside (spelling Keyword.Withdraw ++ 32 ∷ decimal a) (decimal n) (Key Keyword.Withdraw ∷ Number a ∷ []) (Number n ∷ []) 29 20 (beside (spelling Keyword.Withdraw) (decimal a) (Key Keyword.Withdraw ∷ []) (Number a ∷ []) 8 20 (key_text Keyword.Withdraw) (number_is a (let p = h.0 in omega (arith, p)))) (number_is n (let p = h.1 in omega (arith, p)))
+op_is (Account a AccountOp.Balance) h = at_most _ _ 29 50 (omega arith) (beside (spelling Keyword.Balance) (decimal a) (Key Keyword.Balance ∷ []) (Number a ∷ []) 8 20 (key_text Keyword.Balance) (number_is a (let p = h.0 in omega (arith, p))))
+op_is (Element s e ElementOp.Add) h = beside (spelling Keyword.Add ++ 32 ∷ decimal s) (decimal e) (Key Keyword.Add ∷ Number s ∷ []) (Number e ∷ []) 29 20 (beside (spelling Keyword.Add) (decimal s) (Key Keyword.Add ∷ []) (Number s ∷ []) 8 20 (key_text Keyword.Add) (number_is s (let p = h.0 in omega (arith, p)))) (number_is e (let p = h.1 in omega (arith, p)))
+op_is (Element s e ElementOp.Remove) h = beside (spelling Keyword.Remove ++ 32 ∷ decimal s) (decimal e) (Key Keyword.Remove ∷ Number s ∷ []) (Number e ∷ []) 29 20 (beside (spelling Keyword.Remove) (decimal s) (Key Keyword.Remove ∷ []) (Number s ∷ []) 8 20 (key_text Keyword.Remove) (number_is s (let p = h.0 in omega (arith, p)))) (number_is e (let p = h.1 in omega (arith, p)))
+op_is (Element s e ElementOp.Has) h = beside (spelling Keyword.Has ++ 32 ∷ decimal s) (decimal e) (Key Keyword.Has ∷ Number s ∷ []) (Number e ∷ []) 29 20 (beside (spelling Keyword.Has) (decimal s) (Key Keyword.Has ∷ []) (Number s ∷ []) 8 20 (key_text Keyword.Has) (number_is s (let p = h.0 in omega (arith, p)))) (number_is e (let p = h.1 in omega (arith, p)))
+op_is (Counter c (CounterOp.Up n)) h = beside (spelling Keyword.Up ++ 32 ∷ decimal c) (decimal n) (Key Keyword.Up ∷ Number c ∷ []) (Number n ∷ []) 29 20 (beside (spelling Keyword.Up) (decimal c) (Key Keyword.Up ∷ []) (Number c ∷ []) 8 20 (key_text Keyword.Up) (number_is c (let p = h.0 in omega (arith, p)))) (number_is n (let p = h.1 in omega (arith, p)))
+op_is (Counter c (CounterOp.Down n)) h = beside (spelling Keyword.Down ++ 32 ∷ decimal c) (decimal n) (Key Keyword.Down ∷ Number c ∷ []) (Number n ∷ []) 29 20 (beside (spelling Keyword.Down) (decimal c) (Key Keyword.Down ∷ []) (Number c ∷ []) 8 20 (key_text Keyword.Down) (number_is c (let p = h.0 in omega (arith, p)))) (number_is n (let p = h.1 in omega (arith, p)))
+op_is (Counter c CounterOp.Read) h = at_most _ _ 29 50 (omega arith) (beside (spelling Keyword.Read) (decimal c) (Key Keyword.Read ∷ []) (Number c ∷ []) 8 20 (key_text Keyword.Read) (number_is c (let p = h.0 in omega (arith, p))))
+op_is (Size s) h = at_most _ _ 29 50 (omega arith) (beside (spelling Keyword.Size) (decimal s) (Key Keyword.Size ∷ []) (Number s ∷ []) 8 20 (key_text Keyword.Size) (number_is s (omega (arith, h))))
 
 amount_is : (op : AmountOp) → FitsAmount op → TextIs (amount_op_text op) (Key (amount_key op) ∷ amount_rest op) 40
 amount_is (AmountOp.Deposit a) h = at_most _ _ 29 40 (omega arith) (beside (spelling Keyword.Deposit) (decimal a) (Key Keyword.Deposit ∷ []) (Number a ∷ []) 8 20 (key_text Keyword.Deposit) (number_is a (omega (arith, h))))
@@ -103,7 +103,7 @@ amount_is (AmountOp.Up c) h = at_most _ _ 29 40 (omega arith) (beside (spelling 
 amount_is (AmountOp.Down c) h = at_most _ _ 29 40 (omega arith) (beside (spelling Keyword.Down) (decimal c) (Key Keyword.Down ∷ []) (Number c ∷ []) 8 20 (key_text Keyword.Down) (number_is c (omega (arith, h))))
 
 asking_is : (a : Asking) → FitsAsking a → TextIs (asking_text a) (Key (asking_key a) ∷ asking_rest a) 60
-asking_is (Fixed op) h = op_is op h
+asking_is (Fixed op) h = at_most _ _ 50 60 (omega arith) (op_is op h)
 asking_is (By op l) h = at_most _ _ 42 60 (omega arith) (beside (amount_op_text op) (letter_text l) (Key (amount_key op) ∷ amount_rest op) (Variable l ∷ []) 40 1 (amount_is op h) (letter_is l))
 
 abbrev reply_of : ObjReply → Word

@@ -8,6 +8,7 @@ ghost use Rattle.mlt_order.specs.Interleavings.{UndoneTo};
 ghost use Rattle.mlt_order.specs.Runs.{IsSerialBase};
 ghost use Rattle.mlt_object_kinds.specs.Bases.{Base, Step, empty_base};
 ghost use Rattle.mlt_trace.specs.Items.{trace_text};
+ghost use Rattle.mlt_trace.specs.Lines.{AreLinesOf};
 ghost use Rattle.mlt_trace.specs.Entries.{entries_of};
 ghost use Rattle.mlt_trace.specs.Numbers.{committed_txs};
 ghost use Rattle.mlt_trace.specs.declared.item.TraceItem.TheVariants as trace;
@@ -62,10 +63,14 @@ pub fn history_passes_the_checker()
         → IsAcceptedTrace (trace_text items) (committed_txs items) state }
 {}
 
-/// The lines of the text of a history say its items, where these can be written.
+/// The lines of the text of a history say its items, where these can be written. So do those that a server writes as it goes, which
+/// may have spaces before their ends: none has more bytes than a line of a trace may have.
 pub fn written_items_are_read()
-    ensures { (items : List TraceItem) → AreWritable items
+    ensures whole { (items : List TraceItem) → AreWritable items
         → map reading (lines (trace_text items)) ≡ map Says items }
+    ensures served { (items : List TraceItem) (text : List ℕ)
+        → AreWritable items → AreLinesOf items text
+        → map reading (lines text) ≡ map Says items }
 {}
 
 /// Where no item stands, all have their places; and they keep them where one more comes that has its place.
