@@ -1,5 +1,5 @@
--- The words of classes, and the objects on which operations are shown.
-use Rattle.std.specs.Prelude.{ℕ, Bool, List, [], ◌∷◌, Contains, Option, codes, refl}
+-- The classes in the order of their tables, and the objects on which operations are shown.
+use Rattle.std.specs.Prelude.{ℕ, Bool, List, [], ◌∷◌, Contains, Option, refl}
 use Rattle.std.proofs.Common.{arith}
 use Rattle.mlt_object_kinds.specs.declared.{account.AccountOp.AccountOp, element.ElementOp.ElementOp, counter.CounterOp.CounterOp, operation.ObjOp.ObjOp, operation.ObjReply.ObjReply}
 use Rattle.mlt_object_conflicts.specs.declared.{accounts.AccountClass.AccountClass, elements.ElementClass.ElementClass, counters.CounterClass.CounterClass, counters.CounterClass.TheVariants.Counted, counters.CounterClass.TheVariants.Read}
@@ -17,31 +17,6 @@ element_classes = Added ∷ Present ∷ Removed ∷ Absent ∷ Yes ∷ No ∷ []
 
 abbrev pub counter_classes : List CounterClass
 counter_classes = Counted ∷ Read ∷ []
-
--- the word of a class
-abbrev pub account_word : AccountClass → List ℕ
-account_word Opened = codes "Opened"
-account_word Exists = codes "Exists"
-account_word Closed = codes "Closed"
-account_word NotEmpty = codes "NotEmpty"
-account_word Deposited = codes "Deposited"
-account_word Over = codes "Over"
-account_word Withdrawn = codes "Withdrawn"
-account_word Short = codes "Short"
-account_word Balance = codes "Balance"
-account_word Missing = codes "Missing"
-
-abbrev pub element_word : ElementClass → List ℕ
-element_word Added = codes "Added"
-element_word Present = codes "Present"
-element_word Removed = codes "Removed"
-element_word Absent = codes "Absent"
-element_word Yes = codes "Yes"
-element_word No = codes "No"
-
-abbrev pub counter_word : CounterClass → List ℕ
-counter_word Counted = codes "Counted"
-counter_word Read = codes "Read"
 
 -- an operation with its reply, on account 101, element 21 of set 201, or counter 301
 abbrev pub on_account : AccountOp → ObjReply → ObjOp × ObjReply

@@ -1,6 +1,6 @@
 //! What a conflict table wants to be printed: its classes with their words, and its operations on one object.
 
-ghost use Rattle.std.specs.Prelude.{◌≡◌, List, ℕ, Contains};
+ghost use Rattle.std.specs.Prelude.{◌≡◌, List, Contains};
 ghost use Rattle.mlt_object_kinds.specs.declared.operation.ObjOp.{ObjOp};
 ghost use Rattle.mlt_object_kinds.specs.declared.operation.ObjReply.{ObjReply};
 ghost use Rattle.mlt_object_tables.specs.declared.cell_value.CellValue.{CellValue};
@@ -16,9 +16,6 @@ pub trait NamedTable: Table + 'static {
     /// The classes, in the order of the table.
     ghost all_classes: { List Self.Class };
 
-    /// The word of a class.
-    ghost class_word: { Self.Class → List ℕ };
-
     /// An operation with its reply, on the object that is shown.
     ghost done_on_one: { Self.Op → Self.Reply → ObjOp × ObjReply };
 
@@ -30,8 +27,7 @@ pub trait NamedTable: Table + 'static {
         ensures { result.now ≡ all_classes };
 
     /// The word of a class, of at most nine letters.
-    fn word(class: Self::Class) -> &'static str
-        ensures { result.now ≡ class_word class };
+    fn word(class: Self::Class) -> &'static str;
 
     /// An operation with its reply, on the object that is shown.
     fn done(op: &Self::Op, reply: &Self::Reply) -> Done
@@ -70,11 +66,9 @@ const ELEMENT_CLASSES: &[ElementClass] = &[
 const COUNTER_CLASSES: &[CounterClass] = &[CounterClass::Counted, CounterClass::Read];
 
 impl NamedTable for Account {
-    ghost use Rattle.mlt_object_tables.specs.Words.{account_classes, account_word, each_account_class_is_listed, on_account, account_value};
+    ghost use Rattle.mlt_object_tables.specs.Words.{account_classes, each_account_class_is_listed, on_account, account_value};
 
     ghost all_classes = { account_classes };
-
-    ghost class_word = { account_word };
 
     ghost done_on_one = { on_account };
 
@@ -111,11 +105,9 @@ impl NamedTable for Account {
 }
 
 impl NamedTable for Element {
-    ghost use Rattle.mlt_object_tables.specs.Words.{element_classes, element_word, each_element_class_is_listed, on_element, element_value};
+    ghost use Rattle.mlt_object_tables.specs.Words.{element_classes, each_element_class_is_listed, on_element, element_value};
 
     ghost all_classes = { element_classes };
-
-    ghost class_word = { element_word };
 
     ghost done_on_one = { on_element };
 
@@ -148,11 +140,9 @@ impl NamedTable for Element {
 }
 
 impl NamedTable for Counter {
-    ghost use Rattle.mlt_object_tables.specs.Words.{counter_classes, counter_word, each_counter_class_is_listed, on_counter, counter_value};
+    ghost use Rattle.mlt_object_tables.specs.Words.{counter_classes, each_counter_class_is_listed, on_counter, counter_value};
 
     ghost all_classes = { counter_classes };
-
-    ghost class_word = { counter_word };
 
     ghost done_on_one = { on_counter };
 
