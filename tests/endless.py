@@ -5,12 +5,12 @@ import os
 import subprocess
 import threading
 import time
-from collections.abc import Iterator
+from collections.abc import Callable, Iterator
 from concurrent.futures import ThreadPoolExecutor
-from contextlib import contextmanager
+from contextlib import closing, contextmanager
 from pathlib import Path
 
-from harness import Program, Server, each, expect, free_address, holds, lines, listening, of_system, same, test
+from harness import PATIENCE, Program, Server, each, expect, free_address, holds, lines, listening, match, of_system, same, test
 from live_traces import commits_of, small_disk, under_load
 from operating import asked, posted
 from serving import IO, STOPPING, says
@@ -126,10 +126,30 @@ def places_of(memory: int, pid: int, number: int) -> list[int]:
     return found
 
 
+class Counter64:
+    """A count of 64 bits in the memory of a server that waits: it is found by its rise, and can be changed there."""
+
+    def __init__(self, server: Server, rise: Callable[[int], int]) -> None:
+        """`rise` has the server count so many more, and returns the count."""
+        pid = server.process.pid
+        self.memory = os.open(f"/proc/{pid}/mem", os.O_RDWR)
+        self.places = places_of(self.memory, pid, rise(4_099))
+        for more in (1, 3, 5):
+            bits = rise(more).to_bytes(8, "little")
+            self.places = [place for place in self.places if os.pread(self.memory, 8, place) == bits]
+        holds(len(self.places) > 0, "the count is found nowhere")
+
+    def put(self, count: int) -> None:
+        for place in self.places:
+            os.pwrite(self.memory, count.to_bytes(8, "little"), place)
+
+    def close(self) -> None:
+        os.close(self.memory)
+
+
 @test(seconds=1)
 def numbers_of_transactions_have_63_bits(mltx: Program) -> None:
-    """None is refused before the last. So many can't begin in a test: the number of the last one that began is found in the
-    memory of a server that waits, by its rise, and changed there."""
+    """None is refused before the last. So many can't begin in a test, so the count of those that began is changed."""
     with endless(mltx) as server, server.connect() as peer:
         def begun(times: int = 1) -> str:
             """The answer to the last of so many begins, each with an abort behind it."""
@@ -137,21 +157,39 @@ def numbers_of_transactions_have_63_bits(mltx: Program) -> None:
             told = [peer.line() for _ in range(2 * times)]
             return told[-2]
 
-        pid, number = server.process.pid, 4_099
-        memory = os.open(f"/proc/{pid}/mem", os.O_RDWR)
-        same(begun(number), f"begun {number}", "the first ones")
-        places = places_of(memory, pid, number)
-        for more in (1, 3, 5):
-            number += more
-            begun(more)
-            places = [place for place in places if os.pread(memory, 8, place) == number.to_bytes(8, "little")]
-        holds(len(places) > 0, "its number is found nowhere")
-        for last in (2**31 - 1, 2**32 - 1, 2**63 - 3):
-            for place in places:
-                os.pwrite(memory, last.to_bytes(8, "little"), place)
-            same([begun(), begun()], [f"begun {last + 1}", f"begun {last + 2}"], f"behind number {last}")
-        same(begun(), "error 9 IdsSpent", "behind the greatest number")
-        os.close(memory)
+        same(server.first_line(), listening(server.address))
+        with closing(Counter64(server, lambda times: int(begun(times).removeprefix("begun ")))) as number:
+            for last in (2**31 - 1, 2**32 - 1, 2**63 - 3):
+                number.put(last)
+                same([begun(), begun()], [f"begun {last + 1}", f"begun {last + 2}"], f"behind number {last}")
+            same(begun(), "error 9 IdsSpent", "behind the greatest number")
+            match(rf"92233720368547758\d\d of {2**63 - 1} transaction numbers are used", server.next_note())
+            same(server.next_note(), "all transaction numbers are used, no transaction begins (IdsSpent)")
+
+
+@test(seconds=3)
+def trace_has_64_bits_of_bytes(mltx: Program) -> None:
+    """It goes on behind 4 GiB. So much can't be written in a test, so the count of its bytes is changed, to one at the same place
+    in a block."""
+    trace, commits = mltx.folder / "trace", 0
+    with endless(mltx, "--trace", trace) as server:
+        def written(times: int) -> int:
+            """The bytes of the trace, once it has so many more transactions."""
+            nonlocal commits
+            server.talk(lines("begin|up 7 1|commit") * times)
+            commits += times
+            end = time.monotonic() + PATIENCE
+            while not trace.read_text().endswith(f"commit {commits} {commits}\n"):
+                holds(time.monotonic() < end, f"commit {commits} does not come into the trace")
+                time.sleep(0.05)
+            return trace.stat().st_size
+
+        with closing(Counter64(server, written)) as bytes_written:
+            for least in (2**32, 2**63):
+                bytes_written.put(least + trace.stat().st_size % 4_096)
+                written(300)
+    same(commits_of(trace.read_text()), list(range(1, commits + 1)), "the commits of the trace")
+    mltx.accepted(trace)
 
 
 def refused(server: Server, begins: int) -> int:

@@ -3,6 +3,7 @@
 A run is given up as a whole, or the event, script or line is refused in its place, and all else is as if it did not
 stand. What that gives comes from a run with ample memory over the text without it. The C compiler `cc` is needed."""
 import dataclasses
+import errno
 import re
 from collections.abc import Callable, Iterable, Iterator, Sequence
 from typing import TypeVar
@@ -10,6 +11,7 @@ from typing import TypeVar
 from harness import NO_MEMORY, Failed, Program, Ran, Server, cut_for, each, holds, lines, match, same, test
 
 WANT = b"mltx: 1 OutOfMemory\n"
+IO = b"mltx: 13 Io\n"
 REFUSED = "refused 1 OutOfMemory"
 ERROR = "error 1 OutOfMemory"
 # What a server may note of it.
@@ -534,9 +536,10 @@ def out_of_memory_for_good_in_serve(mltx: Program) -> None:
         holds(before == tells[: len(before)], f"{what}, and all after it: {heard}, which is no front of {tells}")
 
 
-@test(seconds=4)
+@test(seconds=8)
 def want_of_memory_ends_the_accepting(mltx: Program) -> None:
-    """Where a session is refused memory, or a connection on its way to one, the server ends before its limit is reached."""
+    """Where a session is refused memory, or a connection on its way to one, the server ends before its limit is reached. If an
+    accept fails meanwhile, and not since the server has closed its port, that is its fault."""
     runs, cut = Runs(mltx, "serve"), 0
 
     def heard(server: Server) -> bytes:
@@ -546,8 +549,8 @@ def want_of_memory_ends_the_accepting(mltx: Program) -> None:
             # The server did not come up, or ends just now.
             return b""
 
-    def run(number: int) -> tuple[bytes, Ran]:
-        with mltx.serve(limit=2, env=runs.refusing(first=number), timeout=20) as server:
+    def run(number: int, **env: str) -> tuple[bytes, Ran]:
+        with mltx.serve(limit=2, env=runs.refusing(first=number) | env, timeout=20) as server:
             told = heard(server)
             if told.endswith(b"bye\n"):
                 heard(server)
@@ -558,3 +561,9 @@ def want_of_memory_ends_the_accepting(mltx: Program) -> None:
             same((ended.status, ended.out, ended.err), (1, b"", WANT), f"{what}: {told!r}")
             cut += cut_for(1, NO_MEMORY) in ended.notes
     holds(cut > 0, "no session was refused memory")
+    both = 0
+    for what, (_, ended) in runs.one_refused(lambda number: run(number, ACCEPTS=f"0 {-errno.EBADF}")):
+        if cut_for(1, NO_MEMORY) in ended.notes:
+            same((ended.status, ended.out, ended.err), (1, b"", IO), f"{what}, and an accept fails")
+            both += 1
+    holds(both > 0, "no session was refused memory while an accept failed")

@@ -9,7 +9,8 @@
    is 0, and never return where it is -1. The others take or give at most MOST bytes. Without TIMES it is one. The calls `write` of one kind of file alone
    are `write-out`, `write-error`, and `write-file` for all but those two.
 
-   ACCEPTS is a list of numbers of faults: accept n fails with the n-th of them, and is made where that is 0.
+   ACCEPTS is a list of numbers of faults: accept n fails with the n-th of them, and is made where that is 0. Where it is negative it is
+   made, and if it fails, that is by this fault.
 
    With NO_NAPS no sleep takes longer than a yield.
 
@@ -142,18 +143,22 @@ ssize_t send(int peer, const void *bytes, size_t size, int how) {
     return fails("send", &size) ? -!!fault : NEXT(send_some, "send")(peer, bytes, size, how);
 }
 
-/* Whether this accept is to fail by the list of faults. It is called by one thread. */
-static int accept_is_listed(void) {
+/* The fault of this accept by the list. It is called by one thread. */
+static int listed_fault(void) {
     if (!accepts || !*accepts) return 0;
     char *rest;
-    errno = (int)strtol(accepts, &rest, 10);
+    int listed = (int)strtol(accepts, &rest, 10);
     accepts = rest;
-    return errno != 0;
+    return listed;
 }
 
 int accept4(int listener, struct sockaddr *address, socklen_t *size, int how) {
-    if (accept_is_listed() || fails("accept", 0)) return -1;
-    return NEXT(accept_one, "accept4")(listener, address, size, how);
+    int listed = listed_fault();
+    if (listed > 0) errno = listed;
+    if (listed > 0 || fails("accept", 0)) return -1;
+    int accepted = NEXT(accept_one, "accept4")(listener, address, size, how);
+    if (accepted < 0 && listed < 0) errno = -listed;
+    return accepted;
 }
 
 int nanosleep(const struct timespec *time, struct timespec *rest) {

@@ -86,7 +86,8 @@ class CommitUnknown(MltxError):
     """The connection ended after a commit was sent and before its answer came: it may have been done or not.
 
     `transaction` is the transaction's number. To run it again could do it twice, so `Client.run` doesn't, and this is
-    no `ConnectionLost`. To know, put a mark into each transaction, such as an element of a set, and look for it."""
+    no `ConnectionLost`. To know, put a mark into each transaction, such as an element of a set, look for it, and take it
+    away again: it takes room."""
 
     def __init__(self, transaction: int) -> None:
         super().__init__(transaction)

@@ -82,7 +82,7 @@ impl<'a, R: Wait + Clock> Acceptor<'a, R> {
     {
         for _ in self.rt.forever() {
             let accepted = self.door.accept();
-            if let Some(ended) = self.ended() {
+            if let Some(ended) = self.ended(&accepted) {
                 return Err(ended);
             }
             match accepted {
@@ -94,19 +94,22 @@ impl<'a, R: Wait + Clock> Acceptor<'a, R> {
                 }
                 Accepted::Again(error) => self.try_again(false, Note::AcceptFailed(error)),
                 Accepted::Pause(error) => self.try_again(true, Note::AcceptPauses(error)),
-                Accepted::Failed(error) => return Err(ListenerEnd::Accept(error)),
+                Accepted::Closed(error) | Accepted::Failed(error) => {
+                    return Err(ListenerEnd::Accept(error));
+                }
             }
         }
         unreachable!()
     }
 
-    /// Why nobody is to be let in any more, if so.
-    fn ended(&self) -> Option<ListenerEnd>
+    /// Why nobody is to be let in any more, if so, as an accept has ended. One that has failed goes before want of memory, unless that
+    /// itself has closed the listener.
+    fn ended(&self, accepted: &Accepted) -> Option<ListenerEnd>
         ensures { IfSome result (λ ended. is_limit ended ≡ false) }
     {
         if self.door.stops() {
             Some(ListenerEnd::Stop)
-        } else if self.door.is_short() {
+        } else if self.door.is_short() && !matches!(accepted, Accepted::Failed(_)) {
             Some(ListenerEnd::Memory)
         } else {
             None

@@ -22,7 +22,7 @@ struct Supervisor<'a, 'b, 'c, P: Pseudo, L: MadeWith<P>, R: Wait + Clock> {
     /// In how many more looks session threads may still begin.
     looks_for_threads: u32,
     /// Which of the warnings it has told.
-    has_told: [bool; 5],
+    has_told: [bool; 6],
 }
 
 /// Looks after the sessions again and again, until there is nothing left to do.
@@ -41,7 +41,7 @@ pub(crate) fn supervise<P: Pseudo, L: MadeWith<P>, R: Wait + Clock, S: EndSignal
         },
         stops_since: None,
         looks_for_threads: LOOKS_FOR_THREADS,
-        has_told: [false; 5],
+        has_told: [false; 6],
     };
     for _ in rt.forever() {
         if signal.is_given() {
@@ -109,7 +109,7 @@ impl<P: Pseudo, L: MadeWith<P>, R: Wait + Clock> Supervisor<'_, '_, '_, P, L, R>
     }
 
     /// Tells once where nine in ten of the numbers are given out, or of the pages are used, where the directory is as deep as it may
-    /// be, and where an operation was refused for want of room, or of memory.
+    /// be, and where an operation was refused for want of room or of memory, or a begin since all numbers are used.
     fn warn(&mut self) {
         let totals = self.service.seats.totals(self.rt);
         let statistics = self.service.shared.statistics(self.rt);
@@ -132,6 +132,7 @@ impl<P: Pseudo, L: MadeWith<P>, R: Wait + Clock> Supervisor<'_, '_, '_, P, L, R>
             (depth >= most_depth, Note::DeepestDirectory(most_depth)),
             (totals.no_room > 0, Note::NoRoom),
             (totals.no_memory > 0, Note::NoMemory),
+            (totals.no_number > 0, Note::NoNumber),
         ];
         for (has_told, (is_so, note)) in self.has_told.iter_mut().zip(warnings) {
             if is_so && !*has_told {

@@ -1,15 +1,18 @@
 //! Connections, as they come to a listener.
 
+ghost use Rattle.std.specs.Prelude.{◌≡◌};
+ghost use Rattle.mlt_serve_connections.specs.Accepts.{is_among, of_one_connection, of_the_system};
+
 use std::io;
 use std::net::{TcpListener, TcpStream};
 use std::os::fd::AsRawFd;
 
-/// The errors of accept(2) that Linux has from the network: ENONET, EPROTO, ENOPROTOOPT, EOPNOTSUPP, ENETDOWN, ENETUNREACH, EHOSTDOWN
-/// and EHOSTUNREACH.
-const NETWORK_ERRORS: [i32; 8] = [64, 71, 92, 95, 100, 101, 112, 113];
+/// The errors of accept(2) of one connection: EPERM, EINTR and ECONNABORTED, and those that Linux has from the network, ENONET, EPROTO,
+/// ENOPROTOOPT, EOPNOTSUPP, ENETDOWN, ENETUNREACH, EHOSTDOWN and EHOSTUNREACH.
+const OF_ONE_CONNECTION: [i32; 11] = [1, 4, 103, 64, 71, 92, 95, 100, 101, 112, 113];
 
-/// Those of a system that has no descriptors or buffers left: ENFILE and ENOBUFS.
-const SYSTEM_ERRORS: [i32; 2] = [23, 105];
+/// Those of a system that has no memory, descriptors or buffers left: ENOMEM, EMFILE, ENFILE and ENOBUFS.
+const OF_THE_SYSTEM: [i32; 4] = [12, 24, 23, 105];
 
 /// What became of an accept.
 #[derive(Drop)]
@@ -20,7 +23,9 @@ pub enum Accepted {
     Again(io::Error),
     /// It failed for want of descriptors or buffers, so it is to be tried again after a pause.
     Pause(io::Error),
-    /// It failed by the listener, and so will each that follows.
+    /// The listener accepts no more connections, as after `refuse_all`.
+    Closed(io::Error),
+    /// It failed by the listener otherwise, and so will each that follows.
     Failed(io::Error),
 }
 
@@ -32,19 +37,24 @@ pub fn accept(listener: &TcpListener) -> Accepted {
         Err(error) => match error.raw_os_error() {
             Some(code) if is_tried_again(code) => Accepted::Again(error),
             Some(code) if does_pause(code) => Accepted::Pause(error),
+            Some(libc::EINVAL) => Accepted::Closed(error),
             _ => Accepted::Failed(error),
         },
     }
 }
 
 /// Whether an accept that failed so is to be tried again at once.
-fn is_tried_again(code: i32) -> bool {
-    NETWORK_ERRORS.contains(&code) || matches!(code, libc::EPERM | libc::EINTR | libc::ECONNABORTED)
+fn is_tried_again(code: i32) -> bool
+    ensures { result ≡ is_among of_one_connection code }
+{
+    OF_ONE_CONNECTION.contains(&code)
 }
 
 /// Whether an accept that failed so is to be tried again after a pause.
-fn does_pause(code: i32) -> bool {
-    SYSTEM_ERRORS.contains(&code) || matches!(code, libc::ENOMEM | libc::EMFILE)
+fn does_pause(code: i32) -> bool
+    ensures { result ≡ is_among of_the_system code }
+{
+    OF_THE_SYSTEM.contains(&code)
 }
 
 /// From now on the listener accepts no connection: a thread that waits in an accept of it fails, and clients are refused.

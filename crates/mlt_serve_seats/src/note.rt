@@ -91,6 +91,9 @@ pub enum Note {
     /// A transaction or an operation was refused for want of memory, the first one.
     #[error("the first operation was refused for lack of memory (OutOfMemory)")]
     NoMemory,
+    /// All numbers of transactions are used, so a begin was refused, the first one.
+    #[error("all transaction numbers are used, no transaction begins (IdsSpent)")]
+    NoNumber,
     /// The operator's address is not loopback.
     #[error("the admin address {0} is not loopback")]
     OpenAdmin(SocketAddr),

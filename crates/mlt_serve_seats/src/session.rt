@@ -126,6 +126,7 @@ impl SessionActivity {
             | Told::Answered(Answer::Refused(Refusal::OutOfMemory)) => {
                 add_one(&mut self.totals.no_memory)
             }
+            Told::Refused(Refusal::IdsSpent) => add_one(&mut self.totals.no_number),
             Told::Cancelled => add_one(&mut self.totals.gave_up),
             Told::Committed(_) => {
                 add_one(&mut self.totals.commits);

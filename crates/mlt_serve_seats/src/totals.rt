@@ -21,6 +21,8 @@ pub struct Totals {
     pub no_room: u64,
     /// How many operations and begins were refused for want of memory.
     pub no_memory: u64,
+    /// How many begins were refused since all numbers of transactions are used.
+    pub no_number: u64,
 }
 
 /// Counts one more.
@@ -39,6 +41,7 @@ impl Totals {
         self.deadlocks = self.deadlocks.saturating_add(other.deadlocks);
         self.no_room = self.no_room.saturating_add(other.no_room);
         self.no_memory = self.no_memory.saturating_add(other.no_memory);
+        self.no_number = self.no_number.saturating_add(other.no_number);
     }
 
     /// How many transactions have ended; it stays at 2^64 - 1.
