@@ -105,6 +105,10 @@ impl Desks {
             (precedence_after (given_back_by event.now told.now) self.old.precedence) }
         ensures count { self.new.count ≡ self.old.count }
     {
+        // Most events only go on with an operation: they give nothing back, and need not wait.
+        if let Told::Called | Told::Answered(Answer::Going) = told {
+            return Turn::Goes;
+        }
         self.give_back(given_back(event, told), wakers);
         if !may_sleep {
             return Turn::Goes;
