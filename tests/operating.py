@@ -936,9 +936,16 @@ def operator_stops_the_server(mltx: Program) -> None:
 
 @test(seconds=1)
 def server_is_stopped_as_systemd_does(mltx: Program) -> None:
-    """By the command of the unit, which ends once the server has ended in order."""
-    line = match("(?m)^ExecStop=(.*)$", (ROOT / "contrib/mltx.service").read_text())[1]
-    with operated(mltx) as server, served(server) as peer:
+    """With the options of the unit, and by its command, which ends once the server has ended in order. A limit of the size of
+    files would cut the trace."""
+    unit = (ROOT / "contrib/mltx.service").read_text()
+    holds("\nLimitFSIZE=infinity\n" in unit, "the unit limits the size of files")
+    options = match("(?m)^ExecStart=/usr/local/bin/mltx serve 127.0.0.1:7000 (.*) --admin 127.0.0.1:7001 -v$", unit)[1].split()
+    line = match("(?m)^ExecStop=(.*)$", unit)[1]
+    with mltx.serve(*options, "-v", limit=None, admin=free_address()) as server, served(server) as peer:
+        server.limit = 2**63 - 1
+        said = [server.first_line() for _ in range(3)]
+        match("^mltx: server [0-9]+$", said[2])
         says(peer, "begin", "begun 1", "up 1 1", "done")
         words = shlex.split(line.replace("127.0.0.1:7001", "%s:%d" % server.admin))
         env = {**os.environ, "MAINPID": str(server.process.pid)}

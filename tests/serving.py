@@ -261,6 +261,18 @@ LEAVES: dict[str, Callable[[Peer], None]] = {
 }
 
 
+@test(seconds=1)
+def connections_are_numbered(mltx: Program) -> None:
+    """From 1 on, each by how many came before it: also the last of many is named so that is cut."""
+    many = 1_200
+    with mltx.serve("--sessions", 1, limit=many) as server:
+        for number in range(1, many):
+            same(server.talk("quit\n"), b"bye\n", f"client {number}")
+        with server.connect() as last:
+            same(last.say_all("x" * 300 + "\n"), b"error 12 LineTooLong\n", "the last client")
+        expect(server.end(), out=f"served {many}\n", notes=[cut_for(many, LONG_LINE)])
+
+
 @each({f"client-whose-connection-is-{name}-while-it-waits-is-found": leaves for name, leaves in LEAVES.items()}, seconds=2)
 def client_that_leaves_while_it_waits_is_found(mltx: Program, leaves: Callable[[Peer], None]) -> None:
     """Within a second or so what it did is taken back, and its session serves another, though nobody ends what it waits for."""
