@@ -2,7 +2,7 @@
 //! transaction. A `Socket` reads and writes, `accept` sorts the errors of an accept, and
 //! `lingering_close` ends a connection without losing its last answers. An `AdmissionQueue` admits
 //! three sessions at a time, and lets one more bypass it. Only safety, that a read fits its buffer,
-//! and which lines count as HTTP is proved; all else is only tested.
+//! which lines count as HTTP, and two lists of errors are proved; all else is only tested.
 #![tactic(auto)]
 
 mod accepting;
