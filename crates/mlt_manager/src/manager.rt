@@ -1,6 +1,7 @@
 //! The manager of transactions.
 
 ghost use Rattle.std.specs.Prelude.{◌≡◌, ◌≢◌, ◌≤◌, ◌++◌, [], IfNone, IfOk, IfSome, IsOkUnless, OnErr, OnOk};
+ghost use Rattle.std.specs.FinSet as set;
 ghost use Rattle.mlt_trace_check.specs.Traces.{ArePlaced};
 ghost use Rattle.mlt_trace.specs.Numbers.{AreBegunInOrder};
 ghost use Rattle.mlt_tx.specs.Tables.{KeepsImage, KeepsNoImage};
@@ -377,6 +378,13 @@ impl<P: Pseudo> Manager<P> {
         ensures { result ≡ self.now.commits }
     {
         self.parts.commits
+    }
+
+    /// How many transactions are open, 0 to 64.
+    pub fn open_count(&self) -> usize
+        ensures { result ≡ set.len self.now.active }
+    {
+        self.parts.active.len()
     }
 
     /// How many events there were; it stays at 2^64 - 1.

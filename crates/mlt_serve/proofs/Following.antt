@@ -1,13 +1,15 @@
 -- The operations of a session stand in the history in the order in which they were made.
-use Rattle.std.proofs.Common.{◌≡◌, inl, inr, ℕ, ◌+◌, ◌++◌, List, [], ◌∷◌, Option, Some, None, Bool, true, false, if◌then◌else◌, All, Contains, refl, sym, ap, subst, ◌∙◌, append_assoc}
+use Rattle.std.proofs.Common.{◌≡◌, inl, inr, ℕ, ◌+◌, ◌++◌, List, [], ◌∷◌, Option, Some, None, Bool, true, false, if◌then◌else◌, All, Contains, refl, sym, ap, subst, ◌∙◌, append_assoc, append-nil}
+use Rattle.std.proofs.lemmas.List.{map-append}
 use Rattle.mlt_serve.proofs.Names.{All-append, All-nil, All-push, TraceItem, Outcome, Moves, StartsWith, ObjOp, ObjReply, DeskAnswer, DeskCall, IsSubsequence, ops_of-append, ops_of}
 use Rattle.mlt_event_text.specs.declared.{command.Command.Command, session_line.SessionLine.SessionLine, session_line.SessionLine.TheVariants.Says, session_line.SessionLine.TheVariants.TooLong}
 use Rattle.mlt_script_serial.specs.Calls.{answer_to}
 use Rattle.mlt_script_serial.specs.declared.call.DeskAnswer.TheVariants.{Begun, Replied, Committed, Aborted, Refused}
 use Rattle.mlt_serve_session.{proofs.Giving.IsOpenOrNone, specs.Desks.Answers, specs.Desks.Moved}
 use Rattle.mlt_serve_session.specs.Outcomes.{all_done, before_next, begins_by, begun_in, call_of, done_in, outcome_behind, outcome_if, outcomes_of, up_to}
-use Rattle.mlt_serve_session.specs.Talks.{Turn, answers_in, call_alone, call_for, call_within, calls_in, ends, one_turn, open_after, option_list, turns}
+use Rattle.mlt_serve_session.specs.Talks.{Turn, answers_in, call_alone, call_for, call_within, calls_in, closing, closing_answers, ends, one_turn, open_after, option_list, turns}
 use Rattle.mlt_work_desk.proofs.Seeing.{no_more}
+use Rattle.mlt_serve.specs.Tellings.{txs_of}
 use Rattle.mlt_serve.proofs.{Subsequences.behind_more, Subsequences.both_parts, Subsequences.has_op, Telling.moves_of, Telling.run_more}
 
 -- ---- turns
@@ -83,9 +85,9 @@ stays tx before c (Refused r) fits none o = o
 
 -- ---- desks
 
-module _ {D P : Type 0} (bits_of : P → ℕ → ℕ) (view : D → List TraceItem) where
+module _ {D : Type 0} (view : D → List TraceItem) (begun_by : D → List ℕ) where
   abbrev moves : Moves D
-  moves = moves_of bits_of view
+  moves = moves_of view begun_by
 
   -- from the one state to the other the desk saw more items, which have these operations of the transaction, in this order
   record Saw (tx : ℕ) (done : List (ObjOp × ObjReply)) (old new : D) : Type 0 where
@@ -106,16 +108,16 @@ module _ {D P : Type 0} (bits_of : P → ℕ → ℕ) (view : D → List TraceIt
   -- one call
   acts : (tx : ℕ) (before : Option ℕ) (line : SessionLine) (c : DeskCall) (a : DeskAnswer) (old mid : D) → Some c ≡ call_for before line → IsOpenOrNone tx before → Moved moves old c a mid
       → Saw tx (done_in (Some c) (Some a)) old mid
-  acts tx before line DeskCall.Begin a old mid is o moved = nothing tx old mid (moved.1.more, moved.1.whole)
-  acts tx before line (DeskCall.Operation x op) (Begun y) old mid is o moved = nothing tx old mid (moved.1.more, moved.1.whole)
+  acts tx before line DeskCall.Begin a old mid is o moved = nothing tx old mid (moved.1.0.more, moved.1.0.whole)
+  acts tx before line (DeskCall.Operation x op) (Begun y) old mid is o moved = nothing tx old mid (moved.1.0.more, moved.1.0.whole)
   acts tx before line (DeskCall.Operation x op) (Replied reply) old mid is o moved =
-      let have = subst (λ y. Contains moved.1.more (TraceItem.Op y (op, reply))) (of_open x tx op before line o is) moved.1.have in
-      record { more = moved.1.more; whole = moved.1.whole; has = has_op tx (op, reply) moved.1.more have.0 have.1 have.2 }
-  acts tx before line (DeskCall.Operation x op) (Committed n) old mid is o moved = nothing tx old mid (moved.1.more, moved.1.whole)
-  acts tx before line (DeskCall.Operation x op) Aborted old mid is o moved = nothing tx old mid (moved.1.more, moved.1.whole)
-  acts tx before line (DeskCall.Operation x op) (Refused r) old mid is o moved = nothing tx old mid (moved.1.more, moved.1.whole)
-  acts tx before line (DeskCall.Commit x) a old mid is o moved = nothing tx old mid (moved.1.more, moved.1.whole)
-  acts tx before line (DeskCall.Abort x) a old mid is o moved = nothing tx old mid (moved.1.more, moved.1.whole)
+      let have = subst (λ y. Contains moved.1.0.more (TraceItem.Op y (op, reply))) (of_open x tx op before line o is) moved.1.0.have in
+      record { more = moved.1.0.more; whole = moved.1.0.whole; has = has_op tx (op, reply) moved.1.0.more have.0 have.1 have.2 }
+  acts tx before line (DeskCall.Operation x op) (Committed n) old mid is o moved = nothing tx old mid (moved.1.0.more, moved.1.0.whole)
+  acts tx before line (DeskCall.Operation x op) Aborted old mid is o moved = nothing tx old mid (moved.1.0.more, moved.1.0.whole)
+  acts tx before line (DeskCall.Operation x op) (Refused r) old mid is o moved = nothing tx old mid (moved.1.0.more, moved.1.0.whole)
+  acts tx before line (DeskCall.Commit x) a old mid is o moved = nothing tx old mid (moved.1.0.more, moved.1.0.whole)
+  acts tx before line (DeskCall.Abort x) a old mid is o moved = nothing tx old mid (moved.1.0.more, moved.1.0.whole)
 
   -- one turn
   abbrev StepsIf : D → Option DeskCall → Option DeskAnswer → D → Type 0
@@ -163,11 +165,11 @@ module _ {D P : Type 0} (bits_of : P → ℕ → ℕ) (view : D → List TraceIt
 
   follows : (tx : ℕ) (before : Option ℕ) (ts : List Turn) (calls : List DeskCall) (answers : List DeskAnswer) (old new : D) → IsOpenOrNone tx before → AreTurns before ts
       → Answers moves old (calls_in ts ++ calls) (answers_in ts ++ answers) new → Saw tx (all_done (before_next ts)) old new
-  follows tx before [] calls answers old new o are run = nothing tx old new (run_more bits_of view old calls answers new run)
+  follows tx before [] calls answers old new o are run = nothing tx old new (run_more view begun_by old calls answers new run)
   follows tx before (t ∷ ts) calls answers old new o are run =
       let start = starts t ts calls answers old new are.1 run in
       let is : call_of t ≡ call_for before t.line = ap (λ b. call_for b t.line) are.0 in
-      up_to_next tx t (before_next ts) (begun_in (call_of t) t.answer) old new refl (run_more bits_of view old (calls_in (t ∷ ts) ++ calls) (answers_in (t ∷ ts) ++ answers) new run)
+      up_to_next tx t (before_next ts) (begun_in (call_of t) t.answer) old new refl (run_more view begun_by old (calls_in (t ∷ ts) ++ calls) (answers_in (t ∷ ts) ++ answers) new run)
       (λ none. both tx (done_in (call_of t) t.answer) (all_done (before_next ts)) old start.0 new (did tx before t.line (call_of t) t.answer old start.0 is o start.1)
       (follows tx (open_after before t.answer) ts calls answers start.0 new (remains tx before (call_of t) t.answer old start.0 start.1 none o) are.2 start.2))
 
@@ -204,3 +206,38 @@ module _ {D P : Type 0} (bits_of : P → ℕ → ℕ) (view : D → List TraceIt
         All-append InOrder (outcome_if client (begun + 1) (begun_in (call_of t) t.answer) ts) (outcomes_of client (begun + begins_by t.answer) ts)
         (begins client (begun + 1) before (call_of t) t.answer ts start.0 (λ tx is. follows tx next ts calls answers start.0 new (inl is) are.2 start.2))
         (all_in_order client (begun + begins_by t.answer) next ts calls answers start.0 are.2 start.2)
+
+  -- ---- what a desk has begun
+
+  -- by one turn
+  begins_one : (c : Option DeskCall) (a : Option DeskAnswer) (client number : ℕ) (ts : List Turn) (old mid : D) → StepsIf old c a mid
+      → begun_by mid ≡ begun_by old ++ txs_of (outcome_if client number (begun_in c a) ts)
+  begins_one None None client number ts old mid same = ap begun_by same ∙ sym (append-nil (begun_by old))
+  begins_one None (Some a) client number ts old mid none = absurd none
+  begins_one (Some c) None client number ts old mid none = absurd none
+  begins_one (Some DeskCall.Begin) (Some (Begun tx)) client number ts old mid moved = moved.1.1
+  begins_one (Some DeskCall.Begin) (Some (Replied reply)) client number ts old mid moved = moved.1.1 ∙ sym (append-nil (begun_by old))
+  begins_one (Some DeskCall.Begin) (Some (Committed n)) client number ts old mid moved = moved.1.1 ∙ sym (append-nil (begun_by old))
+  begins_one (Some DeskCall.Begin) (Some Aborted) client number ts old mid moved = moved.1.1 ∙ sym (append-nil (begun_by old))
+  begins_one (Some DeskCall.Begin) (Some (Refused r)) client number ts old mid moved = moved.1.1 ∙ sym (append-nil (begun_by old))
+  begins_one (Some (DeskCall.Operation tx op)) (Some a) client number ts old mid moved = moved.1.1 ∙ sym (append-nil (begun_by old))
+  begins_one (Some (DeskCall.Commit tx)) (Some a) client number ts old mid moved = moved.1.1 ∙ sym (append-nil (begun_by old))
+  begins_one (Some (DeskCall.Abort tx)) (Some a) client number ts old mid moved = moved.1.1 ∙ sym (append-nil (begun_by old))
+
+  -- by the end of a session
+  begins_none : (before : Option ℕ) (old new : D) → Answers moves old (closing before) (closing_answers before) new → begun_by new ≡ begun_by old
+  begins_none None old new same = ap begun_by same
+  begins_none (Some tx) old new (mid, moved, same) = ap begun_by same ∙ moved.1.1
+
+  -- by a session: the transactions of its outcomes, in their order
+  pub begins_all : (client number : ℕ) (before last : Option ℕ) (ts : List Turn) (old new : D) → AreTurns before ts
+      → Answers moves old (calls_in ts ++ closing last) (answers_in ts ++ closing_answers last) new → begun_by new ≡ begun_by old ++ txs_of (outcomes_of client number ts)
+  begins_all client number before last [] old new are run = begins_none last old new run ∙ sym (append-nil (begun_by old))
+  begins_all client number before last (t ∷ ts) old new are run =
+      let start = starts t ts (closing last) (closing_answers last) old new are.1 run in
+      let one = outcome_if client (number + 1) (begun_in (call_of t) t.answer) ts in
+      let rest = outcomes_of client (number + begins_by t.answer) ts in
+      begins_all client (number + begins_by t.answer) (open_after before t.answer) last ts start.0 new are.2 start.2
+      ∙ ap (λ l. l ++ txs_of rest) (begins_one (call_of t) t.answer client (number + 1) ts old start.0 start.1)
+      ∙ append_assoc (begun_by old) (txs_of one) (txs_of rest)
+      ∙ ap (λ l. begun_by old ++ l) (sym (map-append (λ (o : Outcome). o.tx) one rest))

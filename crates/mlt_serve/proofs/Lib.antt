@@ -1,4 +1,6 @@
 mod Names
+pub mod Closing
+pub mod Counting
 pub mod Following
 pub mod Merging
 pub mod Lining

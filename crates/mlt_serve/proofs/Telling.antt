@@ -1,22 +1,23 @@
 -- A history tells all that is in outcomes, as it grows, and as others come behind them.
-use Rattle.std.proofs.Common.{◌≡◌, ◌++◌, append-nil, List, [], ◌∷◌, All, ℕ, ap, subst, sym, get_or, Contains, IsPermutation}
+use Rattle.std.proofs.Common.{◌≡◌, ◌++◌, append-nil, refl, List, [], ◌∷◌, All, ℕ, ap, subst, sym, get_or, Contains, IsPermutation}
 use Rattle.std.proofs.lemmas.{Grind.merely, List.Elements.Contains-append_left, List.Elements.Contains-append_right}
 use Rattle.mlt_serve.proofs.Names.{All-append, All-nil, All-weaker, All-permutation, TraceItem, Outcome, Moves, StartsWith, GrowsFor, TellsOutcomes, DeskAnswer, DeskCall, ops_of-append, ops_of, IsSubsequence}
 use mathlib.Core.Logic.{∥∥₁_map}
 use Rattle.mlt_script_serial.specs.declared.outcome.End.{End}
 use Rattle.mlt_types.specs.declared.refusal.Refusal.{Refusal}
 use Rattle.mlt_serve_session.specs.{Desks.Answers, Given.Gave, Given.GaveAll, Given.GaveEnd}
-use Rattle.mlt_work_desk.{specs.Holds.SeesAnswer, proofs.Seeing.more_than, proofs.Seeing.no_more}
+use Rattle.mlt_work_desk.{specs.Holds.Begins, specs.Holds.SeesAnswer, proofs.Seeing.more_than, proofs.Seeing.no_more}
 use Rattle.mlt_serve.{proofs.Subsequences.before_more, specs.Tellings.TellsAll, specs.Tellings.TellsEnd, specs.Tellings.TellsOutcome}
 
--- at a begin that was refused a desk has seen no more
-pub refused_begin : {P : Type 0} (bits_of : P → ℕ → ℕ) (items : List TraceItem) (r : Refusal) → SeesAnswer bits_of items DeskCall.Begin (DeskAnswer.Refused r) items
-refused_begin bits_of items r = record { more = []; whole = sym (append-nil items); have = tt }
+-- at a begin that was refused a desk has seen no more, and has begun nothing
+pub refused_begin : (items : List TraceItem) (begun : List ℕ) (r : Refusal)
+    → SeesAnswer items DeskCall.Begin (DeskAnswer.Refused r) items × Begins begun DeskCall.Begin (DeskAnswer.Refused r) begun
+refused_begin items begun r = (record { more = []; whole = sym (append-nil items); have = tt }, refl)
 
-module _ {D P : Type 0} (bits_of : P → ℕ → ℕ) (view : D → List TraceItem) where
-  -- how a desk moves, by what it has seen of the history
+module _ {D : Type 0} (view : D → List TraceItem) (begun : D → List ℕ) where
+  -- how a desk moves, by what it has seen of the history, and has begun
   abbrev pub moves_of : Moves D
-  moves_of old call given new = SeesAnswer bits_of (view old) call given (view new)
+  moves_of old call given new = SeesAnswer (view old) call given (view new) × Begins (begun old) call given (begun new)
 
   -- what it has seen
   abbrev pub seen : D → List TraceItem
@@ -26,27 +27,27 @@ module _ {D P : Type 0} (bits_of : P → ℕ → ℕ) (view : D → List TraceIt
   pub run_more : (old : D) (calls : List DeskCall) (answers : List DeskAnswer) (new : D) → Answers moves_of old calls answers new → StartsWith (seen new) (seen old)
   run_more old [] [] new same = no_more (seen old) (seen new) (ap seen same)
   run_more old (c ∷ calls) (a ∷ answers) new (mid, moved, rest) =
-      more_than (seen old) (seen mid) (seen new) (run_more mid calls answers new rest) (moved.1.more, moved.1.whole)
+      more_than (seen old) (seen mid) (seen new) (run_more mid calls answers new rest) (moved.1.0.more, moved.1.0.whole)
   run_more old [] (a ∷ answers) new none = absurd none
   run_more old (c ∷ calls) [] new none = absurd none
 
   module _ (last : D) where
     -- what it saw by an answer it has seen at last
-    contains_last : (c : DeskCall) (a : DeskAnswer) (gave : Gave moves_of last c a) (item : TraceItem) → Contains gave.moved.more item → Contains (seen last) item
+    contains_last : (c : DeskCall) (a : DeskAnswer) (gave : Gave moves_of last c a) (item : TraceItem) → Contains gave.moved.0.more item → Contains (seen last) item
     contains_last c a gave item have =
-        let sees = gave.moved in
+        let sees = gave.moved.0 in
         let more = run_more gave.after gave.leads.calls gave.leads.answers last gave.leads.run in
         let here = subst (λ xs. Contains xs item) (sym sees.whole) (Contains-append_right (seen gave.before) sees.more item have) in
         subst (λ xs. Contains xs item) (sym more.1) (Contains-append_left (seen gave.after) more.0 item here)
 
     end_told : (tx : ℕ) (e : End) → GaveEnd moves_of last tx e → TellsEnd (seen last) tx e
-    end_told tx (End.Committed n) gave = contains_last _ _ gave (TraceItem.Commit tx n) gave.moved.have
+    end_told tx (End.Committed n) gave = contains_last _ _ gave (TraceItem.Commit tx n) gave.moved.0.have
     end_told tx End.Aborted gave = tt
     end_told tx (End.Refused r) gave = tt
 
     outcome_told : (o : Outcome) → GaveAll moves_of last o → IsSubsequence o.done (ops_of o.tx (seen last)) → TellsOutcome (seen last) o
     outcome_told o gave in_order = merely (record {
-      begun = contains_last _ _ gave.begun (TraceItem.Begin o.tx) gave.begun.moved.have;
+      begun = contains_last _ _ gave.begun (TraceItem.Begin o.tx) gave.begun.moved.0.have;
       replies = in_order;
       end = end_told o.tx o.end gave.end;
     })

@@ -6,8 +6,7 @@ use Rattle.mlt_work_desk.specs.declared.made_with.MadeWith as making
 use Rattle.mlt_serve_session.specs.declared.receipts.Receipts as receipts
 use Rattle.mlt_serve.specs.declared.session_thread.SessionThread.{SessionThread}
 
-module _ {P L K : Type 0} {by : pseudo.Ghosts P} {made : making.Ghosts L P}
-    {of : receipts.Ghosts K} where
+module _ {P L K : Type 0} {by : pseudo.Ghosts P} {made : making.Ghosts L P} {of : receipts.Ghosts K} where
   -- the outcomes that its receipts have taken
   abbrev pub outcomes_of : SessionThread P L K by made of → List Outcome
   outcomes_of thread = of.receipts thread.outcomes
@@ -17,8 +16,5 @@ module _ {P L K : Type 0} {by : pseudo.Ghosts P} {made : making.Ghosts L P}
   all_outcomes threads = flat_map outcomes_of threads
 
   -- none of their sessions was refused a growth
-  abbrev pub HasMemory : SessionThread P L K by made of → Type 0
-  HasMemory thread = thread.is_short ≡ false
-
   abbrev pub AllHaveMemory : List (SessionThread P L K by made of) → Type 0
-  AllHaveMemory threads = All HasMemory threads
+  AllHaveMemory threads = All (λ thread. thread.is_short ≡ false) threads

@@ -6,7 +6,8 @@ ghost use Rattle.mlt_serve_session.specs.Tallies.{commits_told};
 ghost use Rattle.mlt_serve.specs.Clients.{AreOfClients};
 ghost use Rattle.mlt_serve.specs.Endings.{IsOfServer};
 ghost use Rattle.mlt_serve.specs.Loads.{HasLoaded};
-ghost use Rattle.mlt_serve.specs.Tellings.{TellsOutcomes};
+ghost use Rattle.mlt_serve.specs.Tellings.{HaveCloses, TellsOutcomes};
+ghost use Rattle.mlt_trace_audit.specs.Agreement.{NumbersAgree};
 
 use crate::operating::{EndSignal, Operating, TraceFile};
 use crate::options::ServeOptions;
@@ -43,14 +44,14 @@ pub struct ServedEndless<P: Pseudo> {
 /// trace, if there is a file for it, and then dropped. So of all that was done the server holds the objects alone; the record of a
 /// counter, and of the size of a set, stays once it was made.
 ///
-/// At the end as many transactions were told begun as the manager has begun, and as many told committed as it has committed; and the
-/// manager's history, which clauses know whole, has each begin, the operations of each transaction with their replies, in order, and
-/// each commit that clients were told.
-/// The outcomes of the tally are those of all sessions, as clauses see them.
+/// At the end as many transactions were told begun as the manager has begun, and as many told committed as it has committed, and none is
+/// open. So the manager's history, which clauses know whole, has one outcome for each transaction that it has begun: the operations of the
+/// outcome with their replies, in order, and its commit, or its abort. The outcomes of the tally are those of all sessions, as clauses see
+/// them.
 ///
 /// # Errors
-/// `Io` and `OutOfMemory`, as `serve_on`. `Audit`, where neither came, and the counts are not those of the manager or not all connections
-/// were served.
+/// `Io` and `OutOfMemory`, as `serve_on`. `Audit`, where neither came, and the counts are not those of the manager, a transaction is
+/// open, or not all connections were served.
 pub fn serve_endless<P: Pseudo + Drop + Send, R, N, T, S>(
     rt: &R,
     alloc: Global,
@@ -78,6 +79,12 @@ where
     // replies, in order, and its commit
     ensures told { IfOk result
         (λ got. TellsOutcomes got.manager.shared.history.items got.tally.told.items) }
+    // no two outcomes are of one transaction, and each that was begun has one
+    ensures numbers { IfOk result
+        (λ got. NumbersAgree got.tally.told.items got.manager.shared.history.items) }
+    // the history has the commit of an outcome, or else its abort
+    ensures closes { IfOk result
+        (λ got. HaveCloses got.manager.shared.history.items got.tally.told.items) }
     // each outcome was that of one of the connections, which are no more than the options say
     ensures clients { IfOk result
         (λ got. AreOfClients got.connections got.tally.told.items) }

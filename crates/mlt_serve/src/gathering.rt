@@ -1,10 +1,10 @@
 //! What all session threads have served, put together.
 
 ghost use Rattle.std.specs.Prelude.{◌≡◌, ◌+◌, ◌-◌, ◌*◌, ◌^◌, ◌≤◌, ◌++◌, [], IfErr, IfOk, IsPermutation, OnOk, false, min, vec_len};
-ghost use Rattle.mlt_work_log.specs.Seats.{IsWriterOf, id_of, past_of};
+ghost use Rattle.mlt_work_log.specs.Seats.{IsOf, IsWriterOf, begun_by, id_of, past_of};
 ghost use Rattle.mlt_serve.specs.Clients.{AreOfClients};
 ghost use Rattle.mlt_serve.specs.Endings.{IsOfServer, IsRefusedFor};
-ghost use Rattle.mlt_serve.specs.Tellings.{TellsOutcomes};
+ghost use Rattle.mlt_serve.specs.Tellings.{HasBegunAll, HaveBegun, TellsOutcomes};
 ghost use Rattle.mlt_serve.specs.Threads.{AllHaveMemory, all_outcomes};
 
 use crate::accepting::Accepting;
@@ -12,7 +12,7 @@ use crate::session_thread::SessionThread;
 use mlt_serve_session::Receipts;
 use mlt_types::{Pseudo, Refusal};
 use mlt_work_desk::{MadeWith, Unlocked};
-use mlt_work_log::{HistoryLog, LogWriter};
+use mlt_work_log::{HistoryLog, LogSnapshot, LogWriter};
 use std::alloc::{AllocError, Global};
 use std::sync::ledger::Share;
 
@@ -76,15 +76,22 @@ impl<K: Receipts + Drop> Gathered<K> {
         }
     }
 
-    /// Takes in what one thread has served, and the whole its share. The manager's history tells all that is in the outcomes.
+    /// Takes in what one thread has served, the whole its share, and the snapshot what its desks have begun. The manager's history tells
+    /// all that is in the outcomes.
     #[tactic(auto, using(crate::proofs::Numbering::gathered))]
     fn take_in<P: Pseudo, L: MadeWith<P>>(
         &mut self,
         all: &mut Share<L>,
         thread: SessionThread<P, L, K>,
         desks: &mut Unlocked<P, L>,
+        begun: &mut LogSnapshot,
     )
-        requires { self.old.events ≡ min all.old.amount (2 ^ 64 - 1) }
+        requires events { self.old.events ≡ min all.old.amount (2 ^ 64 - 1) }
+        requires of_log { IsOf L.log_id begun.old }
+        ensures of_log { IsOf L.log_id begun.new }
+        ensures begun { self.new.is_short ≡ false
+            → HasBegunAll (K.receipts self.old.outcomes) (begun_by begun.old)
+            → HasBegunAll (K.receipts self.new.outcomes) (begun_by begun.new) }
         ensures events { self.new.events ≡ min all.new.amount (2 ^ 64 - 1) }
         ensures parts { all.new.parts ≡ all.old.parts + 2 }
         ensures outcomes { self.new.is_short ≡ false
@@ -102,7 +109,7 @@ impl<K: Receipts + Drop> Gathered<K> {
         ensures short { self.new.is_short ≡ false
             → (self.old.is_short ≡ false) × (thread.is_short ≡ false) }
     {
-        desks.compare(thread.snapshot);
+        desks.compare(thread.snapshot, begun);
         all.merge(thread.share);
         self.events = self.events.saturating_add(thread.events);
         self.connections = self.connections.saturating_add(thread.connections);
@@ -137,7 +144,7 @@ impl<K: Receipts + Drop> Gathered<K> {
 }
 
 /// Takes in what the loader and all threads have served, and the whole their shares. Unless a growth was refused, no outcome is missing.
-/// The manager's history tells all that is in the outcomes.
+/// The manager's history tells all that is in the outcomes, and has a begin for each.
 pub(crate) fn gather<P: Pseudo, L: MadeWith<P>, K: Receipts + Drop>(
     alloc: Global,
     all: &mut Share<L>,
@@ -158,14 +165,19 @@ pub(crate) fn gather<P: Pseudo, L: MadeWith<P>, K: Receipts + Drop>(
     ensures told { result.is_short ≡ false
         → TellsOutcomes desks.old.state.manager.shared.history.items
         (K.receipts result.outcomes) }
+    ensures begun { result.is_short ≡ false
+        → HaveBegun desks.old.state.manager.shared.history.items
+        (K.receipts result.outcomes) }
     ensures short { result.is_short ≡ false
         → (loader.is_short ≡ false) × AllHaveMemory threads.items }
 {
     let mut rest = threads;
     let mut gathered = Gathered::new(alloc);
+    let mut begun = desks.snapshot();
     while let Some(thread) = rest.pop() {
-        gathered.take_in(all, thread, desks);
+        gathered.take_in(all, thread, desks, &mut begun);
     }
-    gathered.take_in(all, loader, desks);
+    gathered.take_in(all, loader, desks, &mut begun);
+    desks.count(begun);
     gathered
 }

@@ -15,12 +15,13 @@ pub(crate) struct GuardedDesk<'a, 'b, P: Pseudo, L: MadeWith<P>, R: Wait, G: Gat
 }
 
 impl<P: Pseudo, L: MadeWith<P>, R: Wait, G: Gate> Answering for GuardedDesk<'_, '_, P, L, R, G> {
-    ghost use Rattle.mlt_work_desk.specs.Holds.{SeesAnswer};
-    ghost use Rattle.mlt_work_log.specs.Seats.{first_items};
+    ghost use Rattle.mlt_work_desk.specs.Holds.{Begins, SeesAnswer};
+    ghost use Rattle.mlt_work_log.specs.Seats.{begun_by, first_items};
 
-    // what the desk has seen of the history has each answer
-    ghost moves = { λ old call answer new. SeesAnswer P.bits_of (first_items old.desk.snapshot) call
-        answer (first_items new.desk.snapshot) };
+    // what the desk has seen of the history has each answer, and the desk has begun what it says
+    ghost moves = { λ old call answer new. SeesAnswer (first_items old.desk.snapshot) call answer
+        (first_items new.desk.snapshot)
+        × Begins (begun_by old.desk.snapshot) call answer (begun_by new.desk.snapshot) };
 
     fn operation(&mut self, tx: TxId, op: ObjOp) -> Result<ObjReply, Refusal> {
         self.desk.operation(tx, op)

@@ -1,10 +1,9 @@
 //! A server over TCP: threads serve connections side by side on one manager. The outcomes that
-//! `serve_on` returns agree with the manager's history. `serve_endless` keeps no outcomes: the
-//! history has their begins, replies and commits, and the numbers of begins and commits agree. A base
-//! was loaded as its lines and answers say, and its outcomes are among these. That these are the outcomes
-//! of all sessions, that sessions run at once, that slow or silent clients
-//! stop nobody else, that log messages and traces are written, and that memory stays flat is only
-//! tested.
+//! `serve_on` returns agree with the manager's history. `serve_endless` keeps no outcomes: each
+//! transaction has one, of which the history has the replies, in order, and the commit or the abort. A
+//! base was loaded as its lines and answers say, and its outcomes are among these. That these are the
+//! outcomes of all sessions, that sessions run at once, that slow or silent clients stop nobody else,
+//! that log messages and traces are written, and that memory stays flat is only tested.
 #![tactic(auto)]
 
 mod accepting;

@@ -9,7 +9,7 @@ ghost use Rattle.mlt_trace_audit.specs.Agreement.{Agrees};
 ghost use Rattle.mlt_serve.specs.Clients.{AreNumbered, AreOfClients};
 ghost use Rattle.mlt_serve.specs.Endings.{IsOfServer};
 ghost use Rattle.mlt_serve.specs.Loads.{HasLoaded};
-ghost use Rattle.mlt_serve.specs.Tellings.{TellsOutcomes};
+ghost use Rattle.mlt_serve.specs.Tellings.{HaveBegun, TellsOutcomes};
 
 use crate::door::Door;
 use crate::gathering::{Gathered, gather, new_threads};
@@ -101,6 +101,9 @@ where
         → AreOfClients ended.gathered.last (K.receipts ended.gathered.outcomes)) }
     ensures told { IfOk result (λ ended. ended.gathered.is_short ≡ false
         → TellsOutcomes ended.manager.shared.history.items
+        (K.receipts ended.gathered.outcomes)) }
+    ensures begun { IfOk result (λ ended. ended.gathered.is_short ≡ false
+        → HaveBegun ended.manager.shared.history.items
         (K.receipts ended.gathered.outcomes)) }
     ensures loaded { IfOk result (λ ended. ended.gathered.is_short ≡ false
         → HasLoaded operating.entry.load (K.receipts ended.gathered.outcomes)) }

@@ -3,9 +3,9 @@
 ghost use Rattle.std.specs.Prelude.{◌≡◌, ◌≤◌, ◌+◌, ◌-◌, ◌^◌, [], Err, IfSome, IsOk, None, OnOk, Some, false, min, true};
 ghost use Rattle.mlt_serve.specs.Clients.{AreOfClients, GrowsFor};
 ghost use Rattle.mlt_serve.specs.Loads.{Heard, IsHeard, ends};
-ghost use Rattle.mlt_serve.specs.Tellings.{TellsOutcomes};
+ghost use Rattle.mlt_serve.specs.Tellings.{TellsOutcomes, txs_of};
 ghost use Rattle.mlt_work_log.specs.Prefixes.{StartsWith};
-ghost use Rattle.mlt_work_log.specs.Seats.{IsOf, IsWriterOf, first_items, id_of, past_of};
+ghost use Rattle.mlt_work_log.specs.Seats.{IsOf, IsWriterOf, begun_by, first_items, id_of, past_of};
 
 use crate::accepting::Connection;
 use crate::guarded_desk::GuardedDesk;
@@ -21,6 +21,7 @@ use mlt_work_log::{HistoryLog, LogSnapshot, LogWriter};
 use std::alloc::{AllocError, Global};
 use std::io::{Read, Write};
 use std::marker::PhantomData;
+use std::mem;
 use std::net::TcpStream;
 use std::sync::atomic::Ordering;
 use std::sync::ledger::Share;
@@ -42,7 +43,7 @@ pub(crate) struct SessionThread<P: Pseudo, L: MadeWith<P>, K: Receipts> {
     pub(crate) last: u32,
     /// Whether a session was refused a growth.
     pub(crate) is_short: bool,
-    /// What the history was after the last hold of its desks.
+    /// What the history was after the last hold of its desks, which have begun the transactions of its outcomes.
     pub(crate) snapshot: LogSnapshot,
     /// The manager's function from keys to pseudokeys, by its type.
     pub(crate) pseudo: PhantomData<P>,
@@ -51,11 +52,12 @@ pub(crate) struct SessionThread<P: Pseudo, L: MadeWith<P>, K: Receipts> {
     ghost of_clients: { AreOfClients last (K.receipts outcomes) },
     ghost of_log: { IsOf L.log_id snapshot },
     ghost told: { TellsOutcomes (first_items snapshot) (K.receipts outcomes) },
+    ghost begun: { begun_by snapshot ≡ txs_of (K.receipts outcomes) },
 }
 
 impl<P: Pseudo, L: MadeWith<P>, K: Receipts + Drop> SessionThread<P, L, K> {
     /// Nothing was served yet. It takes two parts of the ledger.
-    #[tactic(auto, using(crate::proofs::Numbering::none_of, crate::proofs::Telling::none_told))]
+    #[tactic(auto, using(crate::proofs::Counting::none_begun_yet, crate::proofs::Numbering::none_of, crate::proofs::Telling::none_told))]
     pub(crate) fn new(
         alloc: Global,
         all: &mut Share<L>,
@@ -124,7 +126,8 @@ impl<P: Pseudo, L: MadeWith<P>, K: Receipts + Drop> SessionThread<P, L, K> {
             pseudo: _,
         } = self;
         let mine = share.split_off(1, 0);
-        let seen = service.shared.copy_snapshot(snapshot);
+        let copy = service.shared.copy_snapshot(snapshot);
+        let seen = mem::replace(snapshot, copy);
         let tries = Tries::PerOperation(service.options.tries);
         let mut desk = LockDesk::after(rt, service.shared, admission, mine, seen, tries);
         desk.serve(client);

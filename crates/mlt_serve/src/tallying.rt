@@ -4,7 +4,8 @@ ghost use Rattle.std.specs.Prelude.{◌≡◌, ◌≤◌, IfErr, IfOk, OnOk, len
 ghost use Rattle.mlt_serve_session.specs.Tallies.{commits_told};
 ghost use Rattle.mlt_serve.specs.Clients.{AreOfClients};
 ghost use Rattle.mlt_serve.specs.Endings.{IsOfServer, IsRefusedFor};
-ghost use Rattle.mlt_serve.specs.Tellings.{TellsOutcomes};
+ghost use Rattle.mlt_serve.specs.Tellings.{HaveBegun, HaveCloses, TellsOutcomes};
+ghost use Rattle.mlt_trace_audit.specs.Agreement.{NumbersAgree};
 
 use crate::accepting::Accepting;
 use crate::gathering::Gathered;
@@ -15,7 +16,8 @@ use mlt_types::{Pseudo, Refusal};
 /// The tally of all sessions, where its counts are those of the manager.
 ///
 /// # Errors
-/// As those of `Gathered::served`, and then `Audit`, where not as many transactions were told begun or committed as the manager has.
+/// As those of `Gathered::served`, and then `Audit`, where not as many transactions were told begun or committed as the manager has, or
+/// where one is open.
 pub(crate) fn tally_of<P: Pseudo>(
     accepting: Accepting,
     gathered: Gathered<Tally>,
@@ -26,6 +28,8 @@ pub(crate) fn tally_of<P: Pseudo>(
         → AreOfClients gathered.last gathered.outcomes.told.items }
     requires told { gathered.is_short ≡ false
         → TellsOutcomes manager.now.shared.history.items gathered.outcomes.told.items }
+    requires begun { gathered.is_short ≡ false
+        → HaveBegun manager.now.shared.history.items gathered.outcomes.told.items }
     ensures same { IfOk result (λ tally. tally ≡ gathered.outcomes) }
     ensures begun { IfOk result (λ tally. length tally.told.items ≡ manager.now.begun) }
     ensures commits { IfOk result
@@ -34,6 +38,10 @@ pub(crate) fn tally_of<P: Pseudo>(
         (λ tally. AreOfClients accepting.connections tally.told.items) }
     ensures told { IfOk result
         (λ tally. TellsOutcomes manager.now.shared.history.items tally.told.items) }
+    ensures numbers { IfOk result
+        (λ tally. NumbersAgree tally.told.items manager.now.shared.history.items) }
+    ensures closes { IfOk result
+        (λ tally. HaveCloses manager.now.shared.history.items tally.told.items) }
     ensures few { IfOk result (λ _. accepting.connections ≤ limit) }
     ensures served { IfOk result (λ _. gathered.connections ≡ accepting.connections) }
     ensures whole { OnOk result (gathered.is_short ≡ false) }
@@ -45,8 +53,11 @@ pub(crate) fn tally_of<P: Pseudo>(
         return Err(Refusal::Audit);
     }
     let tally = gathered.outcomes;
-    if !tally.has_counted(manager.begun(), manager.commits()) {
+    if !tally.has_counted(manager.begun(), manager.commits()) || manager.open_count() > 0 {
         return Err(Refusal::Audit);
     }
+    manager.keeps_its_invariant();
+    manager.keeps_its_promises();
+    manager.keeps_a_placed_history();
     Ok(tally)
 }

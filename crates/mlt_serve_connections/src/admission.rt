@@ -3,7 +3,7 @@
 use crate::admission_queue::{AdmissionPass, AdmissionQueue};
 use crate::lines::is_one_line;
 use crate::socket::Socket;
-use crate::tuning::EVENTS_PER_TURN;
+use crate::tuning::ANSWERS_PER_TURN;
 use mlt_event::{Answer, Told};
 use mlt_object_kinds::ObjOp;
 use mlt_serve_seats::Sitting;
@@ -22,8 +22,8 @@ pub struct Admission<'a, R: Wait + Clock> {
     admission_queue: &'a AdmissionQueue,
     /// None where it is outside.
     pass: Cell<Option<AdmissionPass>>,
-    /// How many events it has made since it went to work.
-    events: Cell<u32>,
+    /// How many answers it has had since it went to work, but for those that its operation goes on.
+    answers: Cell<u32>,
     /// Whether its last transaction gave up. Then it pauses outside before the next one: clients that try again at once would
     /// else take from one another what they need, again and again. First tries never wait.
     gave_up: Cell<bool>,
@@ -42,7 +42,7 @@ impl<'a, R: Wait + Clock> Admission<'a, R> {
             rt,
             admission_queue,
             pass: Cell::new(None),
-            events: Cell::new(0),
+            answers: Cell::new(0),
             gave_up: Cell::new(false),
             sitting,
         }
@@ -54,7 +54,7 @@ impl<'a, R: Wait + Clock> Admission<'a, R> {
             rt,
             admission_queue,
             pass,
-            events: _,
+            answers: _,
             gave_up: _,
             sitting,
         } = self;
@@ -79,14 +79,14 @@ impl<'a, R: Wait + Clock> Admission<'a, R> {
 
     /// Goes to work with what it has read.
     fn enter(&self) {
-        self.events.set(0);
+        self.answers.set(0);
         self.take_pass(Some(self.admission_queue.enter(self.rt)));
     }
 
     /// Leaves, and goes to work again in its turn.
     fn queue(&self) {
         self.leave();
-        self.events.set(0);
+        self.answers.set(0);
         self.take_pass(Some(self.admission_queue.queue(self.rt)));
     }
 }
@@ -120,7 +120,6 @@ impl<R: Wait + Clock> Gate for Admission<'_, R> {
 
     #[inline(always)]
     fn pause(&self, _client: u32, told: &Told) {
-        self.events.set(self.events.get().saturating_add(1));
         // Within an operation it goes on, since others may wait for its pages.
         if !matches!(told, Told::Called | Told::Answered(Answer::Going)) {
             self.pause_between(told);
@@ -132,6 +131,7 @@ impl<R: Wait + Clock> Admission<'_, R> {
     /// The event was told something else than that its operation goes on.
     #[inline(never)]
     fn pause_between(&self, told: &Told) {
+        self.answers.set(self.answers.get().saturating_add(1));
         self.sitting.note(told);
         match told {
             Told::Cancelled => self.gave_up.set(true),
@@ -140,7 +140,7 @@ impl<R: Wait + Clock> Admission<'_, R> {
         }
         if is_to_wait(told) {
             self.leave();
-        } else if self.events.get() >= EVENTS_PER_TURN {
+        } else if self.answers.get() >= ANSWERS_PER_TURN {
             self.queue();
         }
     }

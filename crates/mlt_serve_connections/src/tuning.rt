@@ -6,9 +6,9 @@ pub(crate) const MOST_ADMITTED: u64 = 3;
 /// How many sessions bypass the queue at a time. By `connections`, 64.
 pub(crate) const MOST_BYPASSING: u64 = 1;
 
-/// After how many events a session queues. No group shows it: without turns, a client that asks line by line beside four that
-/// stream did 0.5 to 0.75.
-pub(crate) const EVENTS_PER_TURN: u32 = 64;
+/// After how many answers a session queues: some 64 events. No group shows it: without turns, a client that asks line by line beside
+/// four that stream did 0.5 to 0.75.
+pub(crate) const ANSWERS_PER_TURN: u32 = 16;
 
 /// For how many microseconds a session pauses before a restarted transaction, times the sessions that pause. By `retries`, 63
 /// clients.

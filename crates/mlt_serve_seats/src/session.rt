@@ -108,6 +108,17 @@ impl SessionActivity {
         }));
     }
 
+    /// Its operation was told this reply. It answers whether that is all: if the operation has waited, nothing is noted yet.
+    #[inline(always)]
+    pub(crate) fn note_done(&mut self, reply: ObjReply) -> bool {
+        if self.wait.is_some() {
+            return false;
+        }
+        let op = self.op.take();
+        self.finish(op, reply);
+        true
+    }
+
     /// An event that begins or ends something was told this. It answers what has ended so.
     pub(crate) fn note(&mut self, told: &Told, is_watched: bool) -> EndedSpans {
         let wait = self.wait.take();

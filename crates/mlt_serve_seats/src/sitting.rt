@@ -4,7 +4,7 @@ use crate::seat::Seat;
 use crate::session::SessionActivity;
 use crate::totals::add_one;
 use mlt_event::{Answer, Told};
-use mlt_object_kinds::ObjOp;
+use mlt_object_kinds::{ObjOp, ObjReply};
 use std::cell::{Cell, RefCell, RefMut};
 use std::sync::Wait;
 use std::time::{Clock, Instant};
@@ -81,7 +81,21 @@ impl<'a, R: Wait + Clock> Sitting<'a, R> {
         match told {
             Told::Called | Told::Answered(Answer::Going) => (),
             Told::Answered(Answer::Waiting { .. } | Answer::Blocked { .. }) => self.rest(),
+            Told::Answered(Answer::Done(reply)) => self.note_done(told, *reply),
             _ => self.note_end(told),
+        }
+    }
+
+    /// Its operation was told this reply.
+    #[inline(always)]
+    fn note_done(&self, told: &Told, reply: ObjReply) {
+        let Some(mut activity) = self.activity() else {
+            return;
+        };
+        let is_noted = activity.note_done(reply);
+        drop(activity);
+        if !is_noted {
+            self.note_end(told);
         }
     }
 

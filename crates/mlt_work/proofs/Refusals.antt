@@ -5,7 +5,7 @@ use Rattle.mlt_types.specs.declared.refusal.Refusal.{Refusal}
 use Rattle.mlt_object_kinds.specs.Bases.{Transcript}
 use Rattle.mlt_script.specs.{declared.statement.Ending.Ending, declared.statement.Ending.TheVariants.Commit, declared.statement.Ending.TheVariants.Abort, Scripts.ScriptForm}
 use Rattle.mlt_script_serial.specs.{Calls.Moves, Plays.PlaysAt, declared.outcome.End.End, declared.outcome.End.TheVariants.Committed, declared.outcome.End.TheVariants.Aborted, declared.outcome.End.TheVariants.Refused, declared.outcome.Outcome.Outcome, Clients.AreRunsAt, Clients.IsServedAt, DeskRuns.ClosesAs, DeskRuns.refusal_of_script}
-use Rattle.mlt_work_desk.specs.{Holds.Answers, Holds.DeskView, Refusals.IsOfBegin, Refusals.IsOfCommit, Refusals.IsOfOperation}
+use Rattle.mlt_work_desk.specs.Holds.{Answers, DeskView, IsOfBegin, IsOfCommit, IsOfOperation}
 use Rattle.mlt_work_clients.specs.Places.{IsScriptEnd, IsScriptRefusal}
 
 begin_refuses : (r : Refusal) → IsOfBegin r → IsScriptRefusal r

@@ -1,9 +1,9 @@
 -- What desks see of the history.
-use Rattle.std.proofs.Common.{◌≡◌, ◌∙◌, ℕ, List, [], ◌∷◌, ◌++◌, length, sym, ap, subst, refl, inl, inr, true, arith, Contains, append_assoc, append-nil, length-append}
+use Rattle.std.proofs.Common.{◌≡◌, ◌∙◌, ℕ, List, [], ◌∷◌, ◌++◌, length, sym, ap, subst, refl, arith, Contains, append_assoc, append-nil, length-append}
 use Rattle.std.proofs.lemmas.List.Elements.{Contains-append_right}
-use Rattle.mlt_work_desk.proofs.Names.{Refusal, ObjOp, ObjReply, TraceItem, Answer, Event, Told, Replied, Aborted, DeskCall, StartsWith, EndsWithOp, IsToldTo, SeesAnswer, SeesEvent}
+use Rattle.mlt_work_desk.proofs.Names.{Refusal, ObjOp, ObjReply, TraceItem, Answer, Event, Told, Replied, Aborted, DeskCall, StartsWith, EndsWithOp, SeesAnswer, SeesEvent}
 use Rattle.mlt_script_serial.specs.declared.call.DeskAnswer.{DeskAnswer, TheVariants.Begun, TheVariants.Committed, TheVariants.Refused}
-use Rattle.mlt_work_desk.specs.Holds.{HaveAnswer, IsOfAbort}
+use Rattle.mlt_work_desk.specs.Holds.{HaveAnswer}
 
 -- the last ones of two lists that are the same
 same_last : {X : Type 0} (xs ys : List X) (x y : X) → xs ++ x ∷ [] ≡ ys ++ y ∷ [] → x ≡ y
@@ -34,17 +34,17 @@ op_is : (tx last : ℕ) (op asked : ObjOp) (reply given : ObjReply) → TraceIte
 unfolding op_of
 op_is tx last op asked reply given is = ap (λ item. op_of item asked) is
 
-module _ {P : Type 0} (bits_of : P → ℕ → ℕ) (before : List TraceItem) where
+module _ (before : List TraceItem) where
   -- what it answers to a begin, a commit and an operation
-  pub sees_begun : (tx : ℕ) (after : List TraceItem) → SeesEvent before Event.Begin (Told.Begun tx) after → SeesAnswer bits_of before DeskCall.Begin (Begun tx) after
+  pub sees_begun : (tx : ℕ) (after : List TraceItem) → SeesEvent before Event.Begin (Told.Begun tx) after → SeesAnswer before DeskCall.Begin (Begun tx) after
   sees_begun tx after sees = let one = with_item before _ _ after sees (TraceItem.Begin tx) sees.adds in record { more = one.0; whole = one.1; have = one.2 }
 
   pub sees_committed : (tx number : ℕ) (after : List TraceItem) → SeesEvent before (Event.Commit tx) (Told.Committed number) after
-      → SeesAnswer bits_of before (DeskCall.Commit tx) (Committed number) after
+      → SeesAnswer before (DeskCall.Commit tx) (Committed number) after
   sees_committed tx number after sees = let one = with_item before _ _ after sees (TraceItem.Commit tx number) sees.adds in record { more = one.0; whole = one.1; have = one.2 }
 
   pub sees_replied : (tx : ℕ) (asked : ObjOp) (reply : ObjReply) (after : List TraceItem) → EndsWithOp after asked
-      → SeesEvent before (Event.Step tx) (Told.Answered (Answer.Done reply)) after → SeesAnswer bits_of before (DeskCall.Operation tx asked) (Replied reply) after
+      → SeesEvent before (Event.Step tx) (Told.Answered (Answer.Done reply)) after → SeesAnswer before (DeskCall.Operation tx asked) (Replied reply) after
   sees_replied tx asked reply after ends sees =
       let op = sees.adds.0 in
       let here : after ≡ (before ++ sees.between) ++ TraceItem.Op tx (op, reply) ∷ [] = sees.whole ∙ ap (λ xs. (before ++ sees.between) ++ xs) sees.adds.2 in
@@ -54,35 +54,20 @@ module _ {P : Type 0} (bits_of : P → ℕ → ℕ) (before : List TraceItem) wh
       record { more = one.0; whole = one.1; have = one.2 }
 
   -- a refusal stands nowhere
-  have_refusal : (items : List TraceItem) (c : DeskCall) (reason : Refusal) → HaveAnswer bits_of items c (Refused reason)
+  have_refusal : (items : List TraceItem) (c : DeskCall) (reason : Refusal) → HaveAnswer items c (Refused reason)
   have_refusal items DeskCall.Begin reason = tt
   have_refusal items (DeskCall.Operation tx op) reason = tt
   have_refusal items (DeskCall.Commit tx) reason = tt
   have_refusal items (DeskCall.Abort tx) reason = tt
 
-  pub sees_refused : (c : DeskCall) (reason : Refusal) (after : List TraceItem) → StartsWith after before → SeesAnswer bits_of before c (Refused reason) after
+  pub sees_refused : (c : DeskCall) (reason : Refusal) (after : List TraceItem) → StartsWith after before → SeesAnswer before c (Refused reason) after
   sees_refused c reason after more = record { more = more.0; whole = more.1; have = have_refusal more.0 c reason }
 
-  -- the end of an abort: its transaction had done nothing, the last operation was taken back, or the desk may not act for it
-  pub sees_closed : (tx : ℕ) (after : List TraceItem) → SeesEvent before (Event.Abort tx) (Told.Aborting true) after → SeesAnswer bits_of before (DeskCall.Abort tx) Aborted after
-  sees_closed tx after sees = let one = with_item before _ _ after sees (TraceItem.Abort tx) sees.adds in record { more = one.0; whole = one.1; have = inl one.2 }
-
-  pub sees_aborted : (tx : ℕ) (after : List TraceItem) → SeesEvent before (Event.Step tx) (Told.Answered Answer.Aborted) after → SeesAnswer bits_of before (DeskCall.Abort tx) Aborted after
-  unfolding sees_more
-  sees_aborted tx after sees =
-      let more = sees_more before _ _ after sees in
-      record {
-        more = more.0;
-        whole = more.1;
-        have = inl (subst (λ xs. Contains (sees.between ++ xs) (TraceItem.Abort tx)) (sym sees.adds) (Contains-append_right sees.between (TraceItem.Back tx ∷ TraceItem.Abort tx ∷ []) (TraceItem.Abort tx) (1, omega arith, refl)));
-      }
-
-  pub sees_refused_abort : (tx : ℕ) (e : Event) (reason : Refusal) (after : List TraceItem) → IsOfAbort tx e → IsToldTo bits_of e (Told.Refused reason) → StartsWith after before
-      → SeesAnswer bits_of before (DeskCall.Abort tx) Aborted after
-  sees_refused_abort tx e reason after of told more = record { more = more.0; whole = more.1; have = inr (e, reason, of, told) }
+  pub sees_abort : (tx : ℕ) (after : List TraceItem) → StartsWith after before → SeesAnswer before (DeskCall.Abort tx) Aborted after
+  sees_abort tx after more = record { more = more.0; whole = more.1; have = tt }
 
   -- what stands in the last items stands in more of them
-  pub have_later : (items : List TraceItem) (c : DeskCall) (a : DeskAnswer) → HaveAnswer bits_of items c a → HaveAnswer bits_of (before ++ items) c a
+  pub have_later : (items : List TraceItem) (c : DeskCall) (a : DeskAnswer) → HaveAnswer items c a → HaveAnswer (before ++ items) c a
   have_later items DeskCall.Begin (Begun tx) have = Contains-append_right before items (TraceItem.Begin tx) have
   have_later items DeskCall.Begin (Replied reply) have = tt
   have_later items DeskCall.Begin (Committed number) have = tt
@@ -101,17 +86,16 @@ module _ {P : Type 0} (bits_of : P → ℕ → ℕ) (before : List TraceItem) wh
   have_later items (DeskCall.Abort tx) (Begun x) have = tt
   have_later items (DeskCall.Abort tx) (Replied reply) have = tt
   have_later items (DeskCall.Abort tx) (Committed number) have = tt
-  have_later items (DeskCall.Abort tx) Aborted (inl stands) = inl (Contains-append_right before items (TraceItem.Abort tx) stands)
-  have_later items (DeskCall.Abort tx) Aborted (inr refused) = inr refused
+  have_later items (DeskCall.Abort tx) Aborted have = tt
   have_later items (DeskCall.Abort tx) (Refused reason) have = tt
 
 -- and after what was seen before
-pub sees_later : {P : Type 0} (bits_of : P → ℕ → ℕ) (first before : List TraceItem) (c : DeskCall) (a : DeskAnswer) (after : List TraceItem) → StartsWith before first
-    → SeesAnswer bits_of before c a after → SeesAnswer bits_of first c a after
-sees_later bits_of first before c a after more sees = record {
+pub sees_later : (first before : List TraceItem) (c : DeskCall) (a : DeskAnswer) (after : List TraceItem) → StartsWith before first
+    → SeesAnswer before c a after → SeesAnswer first c a after
+sees_later first before c a after more sees = record {
   more = more.0 ++ sees.more;
   whole = sees.whole ∙ ap (λ xs. xs ++ sees.more) more.1 ∙ append_assoc first more.0 sees.more;
-  have = have_later bits_of more.0 sees.more c a sees.have;
+  have = have_later more.0 sees.more c a sees.have;
 }
 
 -- what was seen before it was seen before that

@@ -7,8 +7,8 @@ use Rattle.mlt_script_serial.specs.declared.call.DeskAnswer.TheVariants.{Begun, 
 use Rattle.mlt_event.specs.declared.{answer.Answer.Answer, event.Event.Event, told.Told.Told}
 use Rattle.mlt_trace.specs.{Items.TellsOf, declared.item.TraceItem.TraceItem}
 use Rattle.mlt_manager.specs.{Answers.counted, Events.Meets, Managers.IsManager, Managers.ManagerFields, Tolds.AddsItems, Tolds.CalledOps}
-use Rattle.mlt_work_log.specs.{Seats.first_items, declared.seats.LogSnapshot.LogSnapshot}
-use Rattle.mlt_work_desk.specs.{Refusals.IsOfBegin, Refusals.IsOfCommit, Refusals.IsOfOperation, Tries.GivesUp, Tries.SpendsTries, declared.tries.TriesLeft.TriesLeft}
+use Rattle.mlt_work_log.specs.{Seats.begun_by, Seats.first_items, declared.seats.LogSnapshot.LogSnapshot}
+use Rattle.mlt_work_desk.specs.{Tries.GivesUp, Tries.SpendsTries, declared.tries.TriesLeft.TriesLeft}
 use Rattle.mlt_work_waits.specs.Gates.{is_to_wait}
 
 -- An event of some manager was told this, and met the contract of its call. What is always true of a manager is true of it
@@ -38,17 +38,25 @@ ComesOfAnother other items op = ⊥
 
 -- What a desk had seen of the history before an event of it was told this, and what it has seen then: what others have added between,
 -- and what the event has added.
-pub record SeesEvent (before : List TraceItem) (event : Event) (told : Told)
-    (after : List TraceItem) : Type 0 where
+pub record SeesEvent (before : List TraceItem) (event : Event) (told : Told) (after : List TraceItem) : Type 0 where
   pub between : List TraceItem
   pub here : List TraceItem
   pub called : CalledOps
   pub whole : after ≡ (before ++ between) ++ here
   pub adds : AddsItems event told called here
 
+-- the transaction that an event began, if it did
+abbrev pub txs_begun : Event → Told → List ℕ
+txs_begun Event.Begin (Told.Begun tx) = tx ∷ []
+txs_begun event told = []
+
+-- what a desk has begun, after an event of it was told this
+abbrev pub HasBegun : List ℕ → Event → Told → List ℕ → Type 0
+HasBegun before Event.Begin (Told.Begun tx) after = after ≡ before ++ tx ∷ []
+HasBegun before event told after = after ≡ before
+
 -- A step of the transaction was told what comes only where another desk acts for it, and the desk has seen the history up to that step.
-pub record IsOfAnother {P : Type 0} (bits_of : P → ℕ → ℕ) (tx : ℕ) (op : ObjOp)
-    (history : List TraceItem) : Type 0 where
+pub record IsOfAnother {P : Type 0} (bits_of : P → ℕ → ℕ) (tx : ℕ) (op : ObjOp) (history : List TraceItem) : Type 0 where
   pub told : Told
   pub before : List TraceItem
   pub comes : ComesOfAnother told history op
@@ -60,13 +68,14 @@ abbrev pub IfReply : Event → Told → Type 0 → Type 0
 IfReply (Event.Step tx) (Told.Answered (Answer.Done reply)) X = X
 IfReply event told X = Unit {0}
 
--- what a desk has seen of the history, and its tries
+-- what a desk has seen of the history, which transactions it has begun, and its tries
 pub record DeskView : Type 0 where
   pub history : List TraceItem
+  pub begun : List ℕ
   pub tries : TriesLeft
 
 abbrev pub desk_view : LogSnapshot → TriesLeft → DeskView
-desk_view snapshot tries = record { history = first_items snapshot; tries = tries }
+desk_view snapshot tries = record { history = first_items snapshot; begun = begun_by snapshot; tries = tries }
 
 -- An operation was to wait, and was cancelled, for one of the reasons to give up.
 pub record IsGivenUp {P : Type 0} (bits_of : P → ℕ → ℕ) (tx : ℕ) (tries : TriesLeft) : Type 0 where
@@ -77,6 +86,28 @@ pub record IsGivenUp {P : Type 0} (bits_of : P → ℕ → ℕ) (tx : ℕ) (trie
   pub cancels : IsToldTo bits_of (Event.Cancel tx) cancelled
   pub reason : GivesUp tx tries
 
+-- what a commit may be refused with
+abbrev pub IsOfCommit : Refusal → Type 0
+IsOfCommit Refusal.NoSuchTx = Unit {0}
+IsOfCommit Refusal.Undoing = Unit {0}
+IsOfCommit Refusal.Running = Unit {0}
+IsOfCommit other = ⊥
+
+-- what an operation may be refused with
+abbrev pub IsOfOperation : Refusal → Type 0
+IsOfOperation Refusal.LogFull = Unit {0}
+IsOfOperation Refusal.NoRoom = Unit {0}
+IsOfOperation Refusal.OutOfMemory = Unit {0}
+IsOfOperation Refusal.GaveUp = Unit {0}
+IsOfOperation other = IsOfCommit other
+
+-- what a begin may be refused with
+abbrev pub IsOfBegin : Refusal → Type 0
+IsOfBegin Refusal.TooManyOpen = Unit {0}
+IsOfBegin Refusal.IdsSpent = Unit {0}
+IsOfBegin Refusal.OutOfMemory = Unit {0}
+IsOfBegin other = ⊥
+
 -- Why an operation is refused: its call was, or a step of it; another desk acts for its transaction; or it gave up.
 abbrev pub WhyRefused : {P : Type 0} → (P → ℕ → ℕ) → ℕ → ObjOp → Refusal → DeskView → Type 0
 WhyRefused bits_of tx op reason after =
@@ -86,12 +117,10 @@ WhyRefused bits_of tx op reason after =
     ⊎ ((reason ≡ Refusal.GaveUp) × IsGivenUp bits_of tx after.tries)
 
 -- what an operation may answer: a reply that a step answered, or one of its refusals
-abbrev pub MayAnswerOperation : {P : Type 0} → (P → ℕ → ℕ) → ℕ → ObjOp → DeskAnswer → DeskView
-    → Type 0
+abbrev pub MayAnswerOperation : {P : Type 0} → (P → ℕ → ℕ) → ℕ → ObjOp → DeskAnswer → DeskView → Type 0
 MayAnswerOperation bits_of tx op (Replied reply) after =
     IsToldTo bits_of (Event.Step tx) (Told.Answered (Answer.Done reply))
-MayAnswerOperation bits_of tx op (Refused refusal) after =
-    IsOfOperation refusal × WhyRefused bits_of tx op refusal after
+MayAnswerOperation bits_of tx op (Refused refusal) after = IsOfOperation refusal × WhyRefused bits_of tx op refusal after
 MayAnswerOperation bits_of tx op other after = ⊥
 
 -- what a call may answer: a number or a reply that an event answered, or one of its refusals, for its reason
@@ -100,45 +129,35 @@ MayAnswer bits_of DeskCall.Begin (Begun tx) after = IsToldTo bits_of Event.Begin
 MayAnswer bits_of DeskCall.Begin (Refused refusal) after =
     IsOfBegin refusal × IsToldTo bits_of Event.Begin (Told.Refused refusal)
 MayAnswer bits_of (DeskCall.Operation tx op) given after = MayAnswerOperation bits_of tx op given after
-MayAnswer bits_of (DeskCall.Commit tx) (Committed number) after =
-    IsToldTo bits_of (Event.Commit tx) (Told.Committed number)
+MayAnswer bits_of (DeskCall.Commit tx) (Committed number) after = IsToldTo bits_of (Event.Commit tx) (Told.Committed number)
 MayAnswer bits_of (DeskCall.Commit tx) (Refused refusal) after =
     IsOfCommit refusal × IsToldTo bits_of (Event.Commit tx) (Told.Refused refusal)
 MayAnswer bits_of (DeskCall.Abort tx) Aborted after = Unit {0}
 MayAnswer bits_of asked given after = ⊥
 
--- an event of the transaction that takes it back, or a step of that
-abbrev pub IsOfAbort : ℕ → Event → Type 0
-IsOfAbort tx (Event.Abort x) = x ≡ tx
-IsOfAbort tx (Event.Step x) = x ≡ tx
-IsOfAbort tx other = ⊥
-
--- these items tell that the transaction was aborted, or its desk was refused to do so: then another one acts for it
-abbrev pub HaveAbort : {P : Type 0} → (P → ℕ → ℕ) → List TraceItem → ℕ → Type 0
-HaveAbort bits_of items tx = Contains items (TraceItem.Abort tx)
-    ⊎ ((e : Event) × (reason : Refusal) × IsOfAbort tx e × IsToldTo bits_of e (Told.Refused reason))
-
--- these items have what a call was answered: that the transaction has begun, has committed under this number or was aborted, or did the
--- operation with this reply
-abbrev pub HaveAnswer : {P : Type 0} → (P → ℕ → ℕ) → List TraceItem → DeskCall → DeskAnswer → Type 0
-HaveAnswer bits_of items DeskCall.Begin (Begun tx) = Contains items (TraceItem.Begin tx)
-HaveAnswer bits_of items (DeskCall.Operation tx op) (Replied reply) =
-    Contains items (TraceItem.Op tx (op, reply))
-HaveAnswer bits_of items (DeskCall.Commit tx) (Committed number) =
-    Contains items (TraceItem.Commit tx number)
-HaveAnswer bits_of items (DeskCall.Abort tx) Aborted = HaveAbort bits_of items tx
-HaveAnswer bits_of items asked given = Unit {0}
+-- these items have what a call was answered: that the transaction has begun, has committed under this number, or did the operation with
+-- this reply
+abbrev pub HaveAnswer : List TraceItem → DeskCall → DeskAnswer → Type 0
+HaveAnswer items DeskCall.Begin (Begun tx) = Contains items (TraceItem.Begin tx)
+HaveAnswer items (DeskCall.Operation tx op) (Replied reply) = Contains items (TraceItem.Op tx (op, reply))
+HaveAnswer items (DeskCall.Commit tx) (Committed number) = Contains items (TraceItem.Commit tx number)
+HaveAnswer items asked given = Unit {0}
 
 -- What a desk had seen of the history before it gave this answer to a call, and what it has seen then: more items, which have the answer.
-pub record SeesAnswer {P : Type 0} (bits_of : P → ℕ → ℕ) (before : List TraceItem)
-    (asked : DeskCall) (given : DeskAnswer) (after : List TraceItem) : Type 0 where
+pub record SeesAnswer (before : List TraceItem) (asked : DeskCall) (given : DeskAnswer) (after : List TraceItem) : Type 0 where
   pub more : List TraceItem
   pub whole : after ≡ before ++ more
-  pub have : HaveAnswer bits_of more asked given
+  pub have : HaveAnswer more asked given
 
--- A call has the answer of an event or one of its refusals, the history has that answer, and tries are spent as they are to be.
-pub record Answers {P : Type 0} (bits_of : P → ℕ → ℕ) (before : DeskView) (asked : DeskCall)
-    (given : DeskAnswer) (after : DeskView) : Type 0 where
+-- what a desk has begun, after it gave this answer to a call: no transaction twice, and none that another desk has begun
+abbrev pub Begins : List ℕ → DeskCall → DeskAnswer → List ℕ → Type 0
+Begins before DeskCall.Begin (Begun tx) after = after ≡ before ++ tx ∷ []
+Begins before asked given after = after ≡ before
+
+-- A call has the answer of an event or one of its refusals, the history has that answer, the desk has begun what it says, and tries are
+-- spent as they are to be.
+pub record Answers {P : Type 0} (bits_of : P → ℕ → ℕ) (before : DeskView) (asked : DeskCall) (given : DeskAnswer) (after : DeskView) : Type 0 where
   pub may : MayAnswer bits_of asked given after
-  pub sees : SeesAnswer bits_of before.history asked given after.history
+  pub sees : SeesAnswer before.history asked given after.history
+  pub begins : Begins before.begun asked given after.begun
   pub spends : SpendsTries before.tries asked after.tries

@@ -1,6 +1,5 @@
 pub mod Holds
 pub mod Statistics
 pub mod Makings
-pub mod Refusals
 pub mod Tries
 pub mod Playing

@@ -6,8 +6,7 @@ use Rattle.mlt_tx.specs.Tables.{KeepsImage, KeepsNoImage}
 use Rattle.mlt_manager.specs.Managers.{ManagerFields}
 
 -- of the items that were not handed out, those from this place on are added, at most so many
-pub record AddsKept (from most : ℕ) (history : ItemsWithRoom) (old new : List TraceItem)
-    : Type 0 where
+pub record AddsKept (from most : ℕ) (history : ItemsWithRoom) (old new : List TraceItem) : Type 0 where
   pub kept : List TraceItem
   pub whole : history.items ≡ history.handed ++ kept
   pub added : new ≡ old ++ take most (drop from kept)
@@ -15,5 +14,4 @@ pub record AddsKept (from most : ℕ) (history : ItemsWithRoom) (old new : List 
 -- the first image of the page, where a running operation has written it, and else the page
 abbrev pub IsCleanCopy : {P : Type 0} → ManagerFields P → ℕ → Option Page → Type 0
 IsCleanCopy m number page =
-    KeepsImage m.txs number page
-    ⊎ (KeepsNoImage m.txs number × (page ≡ page_at m.shared.pages.store.pages number))
+    KeepsImage m.txs number page ⊎ (KeepsNoImage m.txs number × (page ≡ page_at m.shared.pages.store.pages number))

@@ -28,8 +28,7 @@ tries_called tries = record tries { left = left_to_call tries.given tries.left; 
 
 -- once it is to wait
 abbrev pub tries_spent : TriesLeft → TriesLeft
-tries_spent tries =
-    record tries { left = tries.left - 1; waited = min (tries.waited + 1) (2 ^ 64 - 1) }
+tries_spent tries = record tries { left = tries.left - 1; waited = min (tries.waited + 1) (2 ^ 64 - 1) }
 
 -- An operation was so often to wait, which is counted up to 2 ^ 64 - 1, and each time spent one of its tries.
 pub record SpendsByWaits (before after : TriesLeft) : Type 0 where
@@ -56,5 +55,4 @@ pub record IsYoungestOfCycle (tx : ℕ) : Type 0 where
 
 -- why an operation gives up: its tries are spent, its transaction is the youngest of a cycle, or its gate is out of patience
 abbrev pub GivesUp : ℕ → TriesLeft → Type 0
-GivesUp tx tries =
-    (tries.left ≡ 0) ⊎ IsYoungestOfCycle tx ⊎ (tries.is_patient ≡ false)
+GivesUp tx tries = (tries.left ≡ 0) ⊎ IsYoungestOfCycle tx ⊎ (tries.is_patient ≡ false)

@@ -3,10 +3,10 @@
 ghost use Rattle.std.specs.Prelude.{◌≡◌, ◌+◌, ◌-◌, ◌^◌, min, true, false, IfSome};
 ghost use Rattle.mlt_script_serial.specs.Calls.{answer_by};
 ghost use Rattle.mlt_work_log.specs.Prefixes.{StartsWith};
-ghost use Rattle.mlt_work_log.specs.Seats.{IsOf, first_items};
+ghost use Rattle.mlt_work_log.specs.Seats.{IsOf, begun_by, first_items};
 ghost use Rattle.mlt_script_serial.specs.declared.call.DeskCall.TheVariants as call;
 ghost use Rattle.mlt_event.specs.declared.event.Event.TheVariants as event;
-ghost use Rattle.mlt_work_desk.specs.Holds.{EndsWithOp, IfReply, IsToldTo, MayAnswerOperation, SeesAnswer, SeesEvent, desk_view};
+ghost use Rattle.mlt_work_desk.specs.Holds.{EndsWithOp, HasBegun, IfReply, IsToldTo, MayAnswerOperation, SeesAnswer, SeesEvent, desk_view};
 ghost use Rattle.mlt_work_desk.specs.Tries.{GivesUp, IsYoungestOfCycle, SpendsByWaits, tries_spent};
 
 use crate::called::Called;
@@ -20,7 +20,7 @@ use mlt_object_kinds::{ObjOp, ObjReply};
 use mlt_script_serial::{Answering, Desk, DeskAnswer};
 use mlt_types::{Pseudo, Refusal, TxId};
 use mlt_work_log::LogSnapshot;
-use mlt_work_waits::{Gate, SleepingThread, Turn, Wakers, is_done};
+use mlt_work_waits::{Gate, SleepingThread, Turn, Wakers, goes_on, is_done};
 use std::sync::Wait;
 use std::sync::ledger::Share;
 
@@ -122,6 +122,8 @@ impl<'a, P: Pseudo, L: MadeWith<P>, R: Wait, G: Gate> LockDesk<'a, P, L, R, G> {
         ensures told { IsToldTo P.bits_of event result.0 }
         ensures sees { SeesEvent (first_items self.old.snapshot) event result.0
             (first_items self.new.snapshot) }
+        ensures begun { HasBegun (begun_by self.old.snapshot) event result.0
+            (begun_by self.new.snapshot) }
         ensures reply { self.new.is_reply ≡ true
             → EndsWithOp (first_items self.new.snapshot) self.old.thread.op }
         ensures another { self.new.is_reply ≡ false → IfReply event result.0
@@ -151,6 +153,13 @@ impl<'a, P: Pseudo, L: MadeWith<P>, R: Wait, G: Gate> LockDesk<'a, P, L, R, G> {
         *is_asleep = false;
         let log = &shared.log;
         let (told, turn) = state.act(event, share, may_sleep, thread, log, snapshot, wakers);
+        if goes_on(&told) {
+            // Nobody is awake or blocked by it.
+            drop(state);
+            *is_reply = false;
+            gate.pause(*client, &told);
+            return (told, turn);
+        }
         *is_reply = is_done(&told) && state.ends_with(&thread.op);
         shared.note_blocked(state.desks.queue.count());
         drop(state);
@@ -228,6 +237,7 @@ impl<'a, P: Pseudo, L: MadeWith<P>, R: Wait, G: Gate> LockDesk<'a, P, L, R, G> {
         ensures cancels { (cancelled : Told)
             × IsToldTo P.bits_of (event.Cancel self.old.thread.tx) cancelled }
         ensures more { StartsWith (first_items self.new.snapshot) (first_items self.old.snapshot) }
+        ensures begun { begun_by self.new.snapshot ≡ begun_by self.old.snapshot }
         ensures thread { self.new.thread ≡ self.old.thread }
         ensures tries { self.new.tries ≡ self.old.tries }
     {
@@ -252,6 +262,7 @@ impl<'a, P: Pseudo, L: MadeWith<P>, R: Wait, G: Gate> LockDesk<'a, P, L, R, G> {
         ensures tx { self.new.thread.tx ≡ self.old.thread.tx }
         ensures op { self.new.thread.op ≡ self.old.thread.op }
         ensures more { StartsWith (first_items self.new.snapshot) (first_items self.old.snapshot) }
+        ensures begun { begun_by self.new.snapshot ≡ begun_by self.old.snapshot }
     {
         let gives_up = self.spends_last_try(turn);
         if gives_up {
@@ -268,10 +279,11 @@ impl<'a, P: Pseudo, L: MadeWith<P>, R: Wait, G: Gate> LockDesk<'a, P, L, R, G> {
         ensures told { IfSome result (λ reply. MayAnswerOperation P.bits_of self.old.thread.tx
             self.old.thread.op (answer_by DeskAnswer.Replied reply)
             (desk_view self.new.snapshot self.new.tries)) }
-        ensures sees { IfSome result (λ reply. SeesAnswer P.bits_of (first_items self.old.snapshot)
+        ensures sees { IfSome result (λ reply. SeesAnswer (first_items self.old.snapshot)
             (call.Operation self.old.thread.tx self.old.thread.op)
             (answer_by DeskAnswer.Replied reply) (first_items self.new.snapshot)) }
         ensures more { StartsWith (first_items self.new.snapshot) (first_items self.old.snapshot) }
+        ensures begun { begun_by self.new.snapshot ≡ begun_by self.old.snapshot }
         ensures spends { SpendsByWaits self.old.tries self.new.tries }
         ensures tx { self.new.thread.tx ≡ self.old.thread.tx }
         ensures op { self.new.thread.op ≡ self.old.thread.op }
@@ -302,9 +314,10 @@ impl<'a, P: Pseudo, L: MadeWith<P>, R: Wait, G: Gate> LockDesk<'a, P, L, R, G> {
     fn steps(&mut self) -> Result<ObjReply, Refusal>
         ensures told { MayAnswerOperation P.bits_of self.old.thread.tx self.old.thread.op
             (answer_by DeskAnswer.Replied result) (desk_view self.new.snapshot self.new.tries) }
-        ensures sees { SeesAnswer P.bits_of (first_items self.old.snapshot)
+        ensures sees { SeesAnswer (first_items self.old.snapshot)
             (call.Operation self.old.thread.tx self.old.thread.op)
             (answer_by DeskAnswer.Replied result) (first_items self.new.snapshot) }
+        ensures begun { begun_by self.new.snapshot ≡ begun_by self.old.snapshot }
         ensures spends { SpendsByWaits self.old.tries self.new.tries }
     {
         let rt = self.rt;
@@ -318,10 +331,10 @@ impl<'a, P: Pseudo, L: MadeWith<P>, R: Wait, G: Gate> LockDesk<'a, P, L, R, G> {
 
     /// One step of an abort. If it has to wait it goes on once it is awake, and uses up no try. It returns whether more are to
     /// come: the answer to the last one is that the transaction was aborted, or that the desk may not act for it.
+    #[tactic(auto, using(crate::proofs::Seeing::sees_more))]
     fn undo_step(&mut self) -> bool
-        ensures ends { result ≡ false → SeesAnswer P.bits_of (first_items self.old.snapshot)
-            (call.Abort self.old.thread.tx) DeskAnswer.Aborted (first_items self.new.snapshot) }
         ensures more { StartsWith (first_items self.new.snapshot) (first_items self.old.snapshot) }
+        ensures begun { begun_by self.new.snapshot ≡ begun_by self.old.snapshot }
         ensures tx { self.new.thread.tx ≡ self.old.thread.tx }
         ensures tries { self.new.tries ≡ self.old.tries }
     {
@@ -335,8 +348,8 @@ impl<'a, P: Pseudo, L: MadeWith<P>, R: Wait, G: Gate> LockDesk<'a, P, L, R, G> {
 
     /// Steps of an abort, up to its end.
     fn undo(&mut self)
-        ensures ends { SeesAnswer P.bits_of (first_items self.old.snapshot)
-            (call.Abort self.old.thread.tx) DeskAnswer.Aborted (first_items self.new.snapshot) }
+        ensures more { StartsWith (first_items self.new.snapshot) (first_items self.old.snapshot) }
+        ensures begun { begun_by self.new.snapshot ≡ begun_by self.old.snapshot }
         ensures tries { self.new.tries ≡ self.old.tries }
     {
         let rt = self.rt;

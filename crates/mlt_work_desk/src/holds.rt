@@ -1,15 +1,16 @@
 //! What a desk does while it holds the lock.
 
-ghost use Rattle.std.specs.Prelude.{◌≡◌, ◌++◌, ◌∷◌, ◌+◌, ◌<◌, ◌≢◌, [], false, true, IsOkUnless, List, Some};
+ghost use Rattle.std.specs.Prelude.{◌≡◌, ◌++◌, ◌∷◌, ◌+◌, ◌<◌, ◌≤◌, ◌≢◌, ℕ, [], false, true, IsOkUnless, List, Some};
 ghost use Rattle.mlt_event.specs.declared.event.Event.{Event};
 ghost use Rattle.mlt_event.specs.declared.told.Told.{Told};
 ghost use Rattle.mlt_manager.specs.Answers.{counted};
 ghost use Rattle.mlt_manager.specs.Events.{Meets};
 ghost use Rattle.mlt_manager.specs.Managers.{IsManager};
 ghost use Rattle.mlt_work_waits.specs.declared.wait.Waker.{Waker};
-ghost use Rattle.mlt_work_log.specs.Prefixes.{HasBegunWith, StartsWith, after_act, no_past};
-ghost use Rattle.mlt_work_log.specs.Seats.{IsOf, IsWriterOf, first_items, id_of, past_of, seen_by};
-ghost use Rattle.mlt_work_desk.specs.Holds.{EndsWithOp, IfReply, SeesEvent};
+ghost use Rattle.mlt_work_log.specs.Prefixes.{HasBegunWith, StartsWith, after_act, no_past, times};
+ghost use Rattle.mlt_trace.specs.Numbers.{begun_txs};
+ghost use Rattle.mlt_work_log.specs.Seats.{IsOf, IsWriterOf, begun_by, first_items, id_of, past_of, seen_by};
+ghost use Rattle.mlt_work_desk.specs.Holds.{EndsWithOp, HasBegun, IfReply, SeesEvent, txs_begun};
 ghost use Rattle.mlt_work_desk.specs.Makings.{making_by};
 ghost use Rattle.mlt_work_waits.specs.Turns.{given_back_by, precedence_after, precedence_if, queue_after, queue_if, TurnsIfWaits, wait_if, waits_after, woken_by};
 
@@ -77,6 +78,7 @@ impl<P: Pseudo, L: MadeWith<P>> LockedState<P, L> {
         ensures seen { seen_by snapshot.new ≡ past_of self.new.writer }
         ensures sees { SeesEvent (first_items snapshot.old) event result.0
             (first_items snapshot.new) }
+        ensures begun { HasBegun (begun_by snapshot.old) event result.0 (begun_by snapshot.new) }
         ensures before { IsManager P.bits_of self.old.manager }
         ensures after { IsManager P.bits_of self.new.manager }
         ensures meets { Meets P.bits_of event result.0
@@ -131,13 +133,26 @@ impl<P: Pseudo, L: MadeWith<P>> LockedState<P, L> {
         last.is_op(op)
     }
 
-    /// A snapshot of the history.
+    /// A snapshot of the history, whose holder has begun nothing.
     pub(crate) fn snapshot(&mut self, log: &HistoryLog) -> LogSnapshot
         requires { id_of log.now ≡ L.log_id }
         ensures of_log { IsOf L.log_id result }
+        ensures begun { begun_by result ≡ [] }
+        ensures same { self.new.manager ≡ self.old.manager }
         ensures desks { self.new.desks ≡ self.old.desks }
     {
         log.snapshot(&mut self.writer)
+    }
+
+    /// The holder of the snapshot has begun no transaction more often than the history has.
+    pub(crate) fn count(&mut self, log: &HistoryLog, all: LogSnapshot)
+        requires log { id_of log.now ≡ L.log_id }
+        requires of_log { IsOf L.log_id all }
+        ensures same { self.new.manager ≡ self.old.manager }
+        ensures counted { (tx : ℕ) → times tx (begun_by all)
+            ≤ times tx (begun_txs self.old.manager.shared.history.items) }
+    {
+        log.count(&mut self.writer, all);
     }
 
     /// The past has begun with that of a snapshot.
@@ -154,7 +169,7 @@ impl<P: Pseudo, L: MadeWith<P>> LockedState<P, L> {
 }
 
 /// The past has one more event from now on, and the items of the manager's history, and the snapshot is one of all of it. The past before
-/// had begun with that of the snapshot.
+/// had begun with that of the snapshot. If the event began a transaction, the holder of the snapshot has begun it.
 #[inline(always)]
 fn see_act<G: Growth, P: Pseudo>(
     log: &HistoryLog,
@@ -166,14 +181,18 @@ fn see_act<G: Growth, P: Pseudo>(
 )
     requires picked { G.past ≡ after_act (past_of writer.old) event.now told.now
         manager.now.shared.history.items }
+    requires begun { G.begun ≡ txs_begun event.now told.now }
     requires writer { IsWriterOf (id_of log.now) writer.old }
     requires of_log { IsOf (id_of log.now) snapshot.old }
     requires grows { StartsWith manager.now.shared.history.items (past_of writer.old).items }
+    requires begins { begun_txs manager.now.shared.history.items
+        ≡ begun_txs (past_of writer.old).items ++ txs_begun event.now told.now }
     ensures writer { IsWriterOf (id_of log.now) writer.new }
     ensures of_log { IsOf (id_of log.now) snapshot.new }
     ensures past { past_of writer.new ≡ after_act (past_of writer.old) event.now told.now
         manager.now.shared.history.items }
     ensures seen { seen_by snapshot.new ≡ past_of writer.new }
+    ensures begun { begun_by snapshot.new ≡ begun_by snapshot.old ++ txs_begun event.now told.now }
     ensures first { HasBegunWith (past_of writer.old) (seen_by snapshot.old) }
 {
     log.see::<G>(writer, snapshot)

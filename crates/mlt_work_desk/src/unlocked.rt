@@ -1,8 +1,9 @@
 //! The manager, once no desk is left.
 
-ghost use Rattle.std.specs.Prelude.{◌≡◌, ◌-◌, ◌^◌, [], false, Some, min};
-ghost use Rattle.mlt_work_log.specs.Prefixes.{StartsWith};
-ghost use Rattle.mlt_work_log.specs.Seats.{IsOf, first_items, id_of};
+ghost use Rattle.std.specs.Prelude.{◌≡◌, ◌≤◌, ◌-◌, ◌++◌, ◌^◌, ℕ, [], false, Some, min};
+ghost use Rattle.mlt_trace.specs.Numbers.{begun_txs};
+ghost use Rattle.mlt_work_log.specs.Prefixes.{StartsWith, times};
+ghost use Rattle.mlt_work_log.specs.Seats.{IsOf, begun_by, first_items, id_of};
 ghost use Rattle.mlt_work_desk.specs.Makings.{making_of};
 ghost use Rattle.mlt_work_desk.specs.Playing.{IsPlayed};
 
@@ -21,14 +22,40 @@ pub struct Unlocked<P: Pseudo, L: MadeWith<P>> {
 }
 
 impl<P: Pseudo, L: MadeWith<P>> Unlocked<P, L> {
-    /// A snapshot that was taken under the lock had the first items of the manager's history.
-    pub fn compare(&mut self, snapshot: LogSnapshot)
-        requires { IsOf L.log_id snapshot }
+    /// A snapshot of the history, whose holder has begun nothing.
+    pub fn snapshot(&mut self) -> LogSnapshot
+        ensures of_log { IsOf L.log_id result }
+        ensures begun { begun_by result ≡ [] }
+        ensures same { self.new.state.manager ≡ self.old.state.manager }
+    {
+        self.state.snapshot(&self.log)
+    }
+
+    /// A snapshot that was taken under the lock had the first items of the manager's history. What its holder has begun is put to what
+    /// others have.
+    pub fn compare(&mut self, snapshot: LogSnapshot, all: &mut LogSnapshot)
+        requires of_log { IsOf L.log_id snapshot }
+        requires all { IsOf L.log_id all.old }
+        ensures all { IsOf L.log_id all.new }
         ensures same { self.new.state.manager ≡ self.old.state.manager }
         ensures first { StartsWith self.old.state.manager.shared.history.items
             (first_items snapshot) }
+        ensures begun { begun_by all.new ≡ begun_by all.old ++ begun_by snapshot }
     {
-        self.state.compare(&self.log, snapshot);
+        let mut snapshot = snapshot;
+        let copy = self.log.copy(&mut snapshot);
+        self.state.compare(&self.log, copy);
+        self.log.gather(all, snapshot);
+    }
+
+    /// The holder of the snapshot has begun no transaction more often than the history has.
+    pub fn count(&mut self, all: LogSnapshot)
+        requires { IsOf L.log_id all }
+        ensures same { self.new.state.manager ≡ self.old.state.manager }
+        ensures counted { (tx : ℕ) → times tx (begun_by all)
+            ≤ times tx (begun_txs self.old.state.manager.shared.history.items) }
+    {
+        self.state.count(&self.log, all);
     }
 
     /// The manager, whose events are the amount of the whole share.

@@ -1,5 +1,5 @@
 -- Seats of a log.
-use Rattle.std.specs.Prelude.{◌≡◌, List, []}
+use Rattle.std.specs.Prelude.{◌≡◌, ℕ, List, []}
 use Rattle.atomic_table.specs.Seated.{TableId}
 use Rattle.mlt_trace.specs.declared.item.TraceItem.{TraceItem}
 use Rattle.mlt_work_log.specs.declared.seats.{HistoryLog.HistoryLog, LogSnapshot.LogSnapshot, LogWriter.LogWriter, Past.Past}
@@ -43,3 +43,7 @@ seen_by snapshot = snapshot.seat.me.0.past
 -- the first items of the history, those that it had when it was seen
 abbrev pub first_items : LogSnapshot → List TraceItem
 first_items snapshot = (seen_by snapshot).items
+
+-- the transactions that its holder has begun, in order
+abbrev pub begun_by : LogSnapshot → List ℕ
+begun_by snapshot = snapshot.seat.me.0.begun

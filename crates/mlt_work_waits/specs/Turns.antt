@@ -10,6 +10,12 @@ abbrev pub is_done : Told → Bool
 is_done (Told.Answered (Answer.Done reply)) = true
 is_done other = false
 
+-- told this, its operation goes on
+abbrev pub goes_on : Told → Bool
+goes_on Told.Called = true
+goes_on (Told.Answered Answer.Going) = true
+goes_on other = false
+
 -- whose locks a step of x has given back, by its answer
 abbrev pub given_back_by_step : ℕ → Answer → GivenBack
 given_back_by_step x Answer.Aborted = GivenBack.All x

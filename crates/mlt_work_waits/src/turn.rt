@@ -1,7 +1,7 @@
 //! What a desk does that would wait, and what wakes it.
 
 ghost use Rattle.std.specs.Prelude.{◌≡◌};
-ghost use Rattle.mlt_work_waits.specs.Turns.{given_back_by, given_back_by_step, is_done, wait_for};
+ghost use Rattle.mlt_work_waits.specs.Turns.{given_back_by, given_back_by_step, goes_on, is_done, wait_for};
 
 use crate::wait::{Waiting, Waker};
 use mlt_event::{Answer, Event, Told};
@@ -75,6 +75,14 @@ pub fn is_done(told: &Told) -> bool
     ensures { result ≡ is_done told.now }
 {
     matches!(told, Told::Answered(Answer::Done(_)))
+}
+
+/// Whether an operation goes on that was told this.
+#[inline(always)]
+pub fn goes_on(told: &Told) -> bool
+    ensures { result ≡ goes_on told.now }
+{
+    matches!(told, Told::Called | Told::Answered(Answer::Going))
 }
 
 /// The wait of a sleeping thread for a lock of this transaction.

@@ -11,6 +11,7 @@ returns-in-Committed g c =
     let held = c.hold-told.ensures in
     record {
       may = subst (λ said. IsToldTo g.P.Pseudo.bits_of commits said) c.in-Committed.is held.told;
-      sees = sees_committed _ before c.args.tx c.in-Committed.number after (subst (λ said. SeesEvent before commits said after) c.in-Committed.is held.sees);
+      sees = sees_committed before c.args.tx c.in-Committed.number after (subst (λ said. SeesEvent before commits said after) c.in-Committed.is held.sees);
+      begins = held.begun;
       spends = held.tries;
     }

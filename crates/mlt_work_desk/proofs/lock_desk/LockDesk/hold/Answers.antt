@@ -1,6 +1,7 @@
-use Rattle.std.proofs.Common.{rules, ◌≡◌, ◌≢◌, ◌∙◌, List, [], ◌∷◌, length, false, ap, refl, arith}
+use Rattle.std.proofs.Common.{rules, ◌≡◌, ◌≢◌, ◌∙◌, List, [], ◌∷◌, length, false, true, ap, refl, arith}
 use Rattle.mlt_work_desk.proofs.Names.{first_items, EndsWithOp, is_done}
-use Rattle.mlt_work_desk.proofs.{Cycles.youngest_of_cycle, Replying.reply_not_done, Replying.reply_then, lock_desk.LockDesk.hold.Goals.then-is_done, lock_desk.LockDesk.hold.Goals.else-is_done, lock_desk.LockDesk.hold.Goals.then-not-is_empty, lock_desk.LockDesk.hold.Goals.else-not-is_empty}
+use Rattle.mlt_work_waits.specs.Turns.{goes_on}
+use Rattle.mlt_work_desk.proofs.{Cycles.youngest_of_cycle, Going.wakes_none, Replying.reply_not_done, Replying.reply_then, lock_desk.LockDesk.hold.Goals.then-is_done, lock_desk.LockDesk.hold.Goals.else-is_done, lock_desk.LockDesk.hold.Goals.then-not-is_empty, lock_desk.LockDesk.hold.Goals.else-not-is_empty}
 use Rattle.mlt_work_log.specs.declared.seats.Past.{Past}
 use Rattle.mlt_work_desk.proofs.lock_desk.LockDesk.hold.Goals as goal
 
@@ -36,20 +37,35 @@ returns-clause-sees g c = c.act-told.ensures.sees
 pub returns-clause-one : goal.returns-clause-one
 returns-clause-one g c = c.act-told.ensures.amount
 
+pub invariant_of-self-2-clause-part : goal.invariant_of-self-2-clause-part
+invariant_of-self-2-clause-part g c = c.act-told.ensures.parts ∙ c.args.self.now.part
+
+pub invariant_of-self-2-clause-of_log : goal.invariant_of-self-2-clause-of_log
+invariant_of-self-2-clause-of_log g c = c.act-told.ensures.of_log
+
+nothing : {X : Type 0} (xs : List X) → length xs ≡ 0 → xs ≡ []
+nothing [] none = refl
+nothing (x ∷ xs) none = absurd (omega (arith, none))
+
+pub invariant_of-self-2-clause-none : goal.invariant_of-self-2-clause-none
+invariant_of-self-2-clause-none g c = elim c.if-not-is_empty.branch [
+  | then-not-is_empty w ↦ ap (λ s. s.1.1.1.1.1.1.1.1.1.1.1.0.items) w.self-is ∙ w.clear.ensures
+  | else-not-is_empty w ↦
+      let none : length c.act-told.new.wakers.items ≡ 0 = search rules in
+      ap (λ s. s.1.1.1.1.1.1.1.1.1.1.1.0.items) w.self-is ∙ nothing c.act-told.new.wakers.items none
+]
+
+-- where its operation goes on
+
 pub invariant_of-self-clause-part : goal.invariant_of-self-clause-part
 invariant_of-self-clause-part g c = c.act-told.ensures.parts ∙ c.args.self.now.part
 
 pub invariant_of-self-clause-of_log : goal.invariant_of-self-clause-of_log
 invariant_of-self-clause-of_log g c = c.act-told.ensures.of_log
 
-nothing : {X : Type 0} (xs : List X) → length xs ≡ 0 → xs ≡ []
-nothing [] none = refl
-nothing (x ∷ xs) none = absurd (omega (arith, none))
-
 pub invariant_of-self-clause-none : goal.invariant_of-self-clause-none
-invariant_of-self-clause-none g c = elim c.if-not-is_empty.branch [
-  | then-not-is_empty w ↦ ap (λ s. s.1.1.1.1.1.1.1.1.1.1.1.0.items) w.self-is ∙ w.clear.ensures
-  | else-not-is_empty w ↦
-      let none : length c.act-told.new.wakers.items ≡ 0 = search rules in
-      ap (λ s. s.1.1.1.1.1.1.1.1.1.1.1.0.items) w.self-is ∙ nothing c.act-told.new.wakers.items none
-]
+invariant_of-self-clause-none g c =
+    let turns = c.act-told.ensures.turns in
+    let goes : goes_on c.act-told.result.0 ≡ true = search rules in
+    let none : c.act-told.new.wakers.items ≡ [] = turns.1 ∙ wakes_none c.args.may_sleep c.args.event c.act-told.result.0 c.args.self.now.thread _ _ _ c.act-told.result.1 turns.0 goes turns.2 in
+    search rules

@@ -14,7 +14,7 @@ returns-in-Answered-Done-clause-sees g c =
     let held = c.hold-told.ensures in
     let is_reply : c.hold-told.new.self.is_reply ≡ true = c.if-self.true in
     let was_told : c.hold-told.result.0 ≡ Told.Answered (Answer.Done reply) = search rules in
-    sees_replied g.P.Pseudo.bits_of before tx c.args.self.now.thread.op reply after (held.reply is_reply)
+    sees_replied before tx c.args.self.now.thread.op reply after (held.reply is_reply)
     (subst (λ said. SeesEvent before (Event.Step tx) said after) was_told held.sees)
 
 pub returns-in-Answered-Done-2-clause-told : goal.returns-in-Answered-Done-2-clause-told
@@ -70,7 +70,7 @@ returns-then-gives_up-clause-sees g c =
     let mid = first_items c.hold-told.new.self.snapshot in
     let after = first_items c.gives_up.new.self.snapshot in
     let thread = c.args.self.now.thread in
-    sees_refused g.P.Pseudo.bits_of before (DeskCall.Operation thread.tx thread.op) GaveUp after
+    sees_refused before (DeskCall.Operation thread.tx thread.op) GaveUp after
     (more_than before mid after c.gives_up.ensures.more (sees_more before _ _ mid c.hold-told.ensures.sees))
 
 pub returns-in-Answered-Going-clause-more : goal.returns-in-Answered-Going-clause-more

@@ -14,4 +14,8 @@ loop-preserved g c =
       step.tx ∙ had.1,
       step.op ∙ had.2,
       spends_more first.tries before.tries after.tries had.3 step.spends,
+      step.begun ∙ had.4,
     )
+
+pub returns-in-Some-step-clause-begun : goal.returns-in-Some-step-clause-begun
+returns-in-Some-step-clause-begun g c = c.in-Some-step.ensures.begun ∙ c.loop.invariant.4

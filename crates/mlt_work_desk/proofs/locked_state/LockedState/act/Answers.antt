@@ -1,6 +1,8 @@
 use Rattle.std.proofs.Common.{◌≡◌, ◌∙◌, ◌+◌, ◌-◌, ◌^◌, ◌++◌, Some, ap, min, arith, sym}
-use Rattle.mlt_work_desk.proofs.{Adding.event_adds, Counting.one_event, Counting.same_making, Playing.still_played, Replying.keeps_reply}
+use Rattle.mlt_work_desk.proofs.{Adding.event_adds, Adding.event_begins, Adding.has_begun, Counting.one_event, Counting.same_making, Playing.still_played, Replying.keeps_reply}
+use Rattle.mlt_trace.specs.Numbers.{begun_txs}
 use Rattle.mlt_work_log.specs.declared.seats.Past.{Past}
+use Rattle.mlt_work_desk.specs.Holds.{txs_begun}
 use Rattle.mlt_work_desk.proofs.locked_state.LockedState.act.Goals as goal
 
 pub invariant_of-self-clause-counted : goal.invariant_of-self-clause-counted
@@ -23,6 +25,14 @@ pub see_act-requires-clause-grows : goal.see_act-requires-clause-grows
 see_act-requires-clause-grows g c =
     let adds = event_adds g.P.Pseudo.bits_of c.args.event c.act-told.result c.args.self.now.manager c.act-told.new.self c.act-told.ensures.meets in
     (adds.0, adds.2 ∙ ap (λ xs. xs ++ adds.0) (sym c.args.self.now.logged))
+
+pub see_act-requires-clause-begins : goal.see_act-requires-clause-begins
+see_act-requires-clause-begins g c =
+    event_begins g.P.Pseudo.bits_of c.args.event c.act-told.result c.args.self.now.manager c.act-told.new.self c.act-told.ensures.meets
+    ∙ ap (λ xs. begun_txs xs ++ txs_begun c.args.event c.act-told.result) (sym c.args.self.now.logged)
+
+pub returns-clause-begun : goal.returns-clause-begun
+returns-clause-begun g c = has_begun c.args.event c.act-told.result _ _ c.see_act.ensures.begun
 
 pub returns-clause-sees : goal.returns-clause-sees
 returns-clause-sees g c =

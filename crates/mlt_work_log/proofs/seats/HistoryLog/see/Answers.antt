@@ -1,5 +1,6 @@
-use Rattle.std.proofs.Common.{rules, ◌∙◌, ap, subst, sym}
-use Rattle.mlt_work_log.{specs.declared.seats.LogView.LogView, specs.Prefixes.HasBegunWith, proofs.Moves.grows, proofs.Moves.joins}
+use Rattle.std.proofs.Common.{rules, ◌≡◌, ◌++◌, ◌∙◌, ap, subst, sym}
+use Rattle.mlt_trace.specs.Numbers.{begun_txs}
+use Rattle.mlt_work_log.{specs.declared.seats.LogView.LogView, specs.declared.seats.Past.Past, specs.Prefixes.HasBegunWith, proofs.Moves.grows, proofs.Moves.hands_over, proofs.Moves.joins}
 use Rattle.mlt_work_log.proofs.seats.HistoryLog.see.Goals as goal
 
 pub join_seat-requires : goal.join_seat-requires
@@ -12,5 +13,9 @@ load-requires g c =
     let past = ap (λ m. m.0.past) joined ∙ c.snapshot-fresh.ensures.same in (
       search rules,
       search rules,
-      grows g.G.Growth.past _ _ _ writes (subst (HasBegunWith g.G.Growth.past) (sym past) c.requires.grows),
+      grows g.G.Growth.past g.G.Growth.begun _ _ _ writes (subst (HasBegunWith g.G.Growth.past) (sym past) c.requires.grows)
+          (subst (λ (p : Past). begun_txs g.G.Growth.past.items ≡ begun_txs p.items ++ g.G.Growth.begun) (sym past) c.requires.begins),
     )
+
+pub split_seat-seat-requires : goal.split_seat-seat-requires
+split_seat-seat-requires g c = (search rules, search rules, hands_over _ _)
