@@ -6,7 +6,7 @@ from collections.abc import Iterator
 from concurrent.futures import ThreadPoolExecutor
 from contextlib import contextmanager
 
-from harness import Peer, Program, each, expect, holds, same, takes, test
+from harness import Peer, Program, each, expect, holds, in_time, same, takes, test
 from sessions import says_nothing
 from waits import AT_ONCE, SOON, number_begun
 
@@ -212,7 +212,7 @@ def gets_through_beside_holders(mltx: Program, row: tuple[str, str]) -> None:
                 ended.set()
             for one in holding:
                 one.result()
-    holds(max(took) < ANSWERED, f"{line} was answered after {took} seconds")
+    in_time(max(took) < ANSWERED, f"{line} was answered after {took} seconds")
 
 
 def moves(ended: float, peer: Peer, seed: int, count: int) -> tuple[int, int]:
@@ -249,4 +249,4 @@ def long_transactions_get_through_beside_short_ones(mltx: Program) -> None:
             told = list(threads.map(lambda it: moves(ended, peers[it[0]], *it), enumerate(work)))
     long = sum(4 * committed for committed, _ in told[:2])
     short = sum(committed for committed, _ in told[2:])
-    holds(5 * long > short > 0 and max(most for _, most in told) <= 30, f"moves: {long} in long ones, {short} in short; {told}")
+    in_time(5 * long > short > 0 and max(most for _, most in told) <= 30, f"moves: {long} in long ones, {short} in short; {told}")

@@ -62,6 +62,10 @@ class Failed(Exception):
     """Something else came than is wanted."""
 
 
+class TooSlow(Failed):
+    """Something took too long, or too little was done in some time. Other programs may be why, so the test is run once more."""
+
+
 @dataclasses.dataclass(frozen=True)
 class Test:
     """A test, the group that it is in (its file), about how many seconds it takes, and what runs it."""
@@ -190,6 +194,12 @@ def holds(is_so: object, what: str) -> None:
         raise Failed(what)
 
 
+def in_time(is_so: object, what: str) -> None:
+    """Fails where something is not so that depends on how fast the machine is."""
+    if not is_so:
+        raise TooSlow(what)
+
+
 def comes_to_be(is_so: Callable[[], object], what: str, pause: float = 0.02) -> None:
     """Waits until something is so, and looks again after each pause, in seconds."""
     deadline = time.monotonic() + PATIENCE
@@ -204,7 +214,8 @@ def takes(least: float, most: float, what: str) -> Iterator[None]:
     began = time.monotonic()
     yield
     took = time.monotonic() - began
-    holds(least <= took <= most, f"{what} after {took} seconds")
+    holds(least <= took, f"{what} after {took} seconds")
+    in_time(took <= most, f"{what} after {took} seconds")
 
 
 def readable(those: Iterable[Case], seconds: float = 0) -> list[Case]:

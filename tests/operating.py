@@ -16,7 +16,7 @@ from contextlib import ExitStack, contextmanager, suppress
 from typing import Any
 
 from harness import BY_OPERATOR, PATIENCE, ROOT, STOPS, Failed, Peer, Program, Server, cut_for, each, expect, free_address, holds
-from harness import match, may_break_off, same, takes, test
+from harness import in_time, match, may_break_off, same, takes, test
 from live_traces import under_load
 from pages import browsers
 from sessions import says_nothing, send_and_hear_nothing
@@ -865,7 +865,7 @@ def slow_operators_hold_nobody_up(mltx: Program, count: int) -> None:
                     began = time.monotonic()
                     slow.sendall(b"GET /status HTTP/1.1\r\nHost: localhost\r\nX-A: ")
                     while not ended.wait(0.3):
-                        holds(time.monotonic() - began < 1 + SLACK, "a slow connection is left open")
+                        in_time(time.monotonic() - began < 1 + SLACK, "a slow connection is left open")
                         slow.sendall(b"b")
 
         slow_ones = [threads.submit(send_slowly) for _ in range(count)]

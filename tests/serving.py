@@ -15,8 +15,8 @@ from contextlib import contextmanager
 from pathlib import Path
 
 from harness import BROKEN, IDLE, LONG_LINE, MANY_BYTES, OPEN_LONG, PATIENCE, ROOT, STOPS, Address, Failed, Peer, Program, Server
-from harness import comes_to_be, cut_for, each, expect, free_address, holds, in_any_order, lines, listening, match, may_break_off
-from harness import notes_apart, of_system, readable, same, takes, test
+from harness import comes_to_be, cut_for, each, expect, free_address, holds, in_any_order, in_time, lines, listening, match
+from harness import may_break_off, notes_apart, of_system, readable, same, takes, test
 from sessions import SILENCE, break_off, says_nothing, send_and_hear_nothing
 from waits import processor_seconds
 
@@ -114,7 +114,7 @@ def no_file_number_is_free(mltx: Program) -> None:
         same((ended.status, ended.out, ended.err), (0, b"served 5\n", b""), "the server")
         same(ended.notes, told * (len(ended.notes) // 2), "the notes")
         holds(ended.notes, "nothing was noted")
-    holds(used < 0.5, f"a server without descriptors used {used} seconds of a processor in a second")
+    in_time(used < 0.5, f"a server without descriptors used {used} seconds of a processor in a second")
 
 
 @each({f"accepting-ends-after-{errno.errorcode[fault]}": fault for fault in (errno.EINVAL, errno.ENOTSOCK, errno.EBADF)})

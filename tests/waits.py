@@ -6,7 +6,8 @@ import threading
 import time
 from concurrent.futures import ThreadPoolExecutor
 
-from harness import BROKEN, Peer, Program, Server, cut_for, each, expect, holds, in_any_order, lines, same, takes, test
+from harness import BROKEN, Peer, Program, Server, cut_for, each, expect, holds, in_any_order, in_time, lines, same, takes
+from harness import test
 from sessions import says_nothing, send_and_hear_nothing
 
 # Within so many seconds an answer comes that need wait for nobody, on a slow machine too.
@@ -68,7 +69,7 @@ def session_that_waits_uses_no_processor(mltx: Program) -> None:
             used = processor_seconds(server) - before
             same([holder.ask("abort"), waiter.line()], ["aborted", "is 0"])
         expect(server.end(), out="served 2\n")
-    holds(used < 0.1, f"a session waited half a second and used {used} seconds of a processor")
+    in_time(used < 0.1, f"a session waited half a second and used {used} seconds of a processor")
 
 
 def long(line: str) -> str:
@@ -267,7 +268,7 @@ def clients_that_begin_again_at_once_get_through(mltx: Program) -> None:
         expect(server.end(), out=f"served {clients + 1}\n")
     committed, gave_up, most = (list(of_all) for of_all in zip(*ends))
     what = f"each committed {committed} and gave up {gave_up}, and tried one at most {most} times"
-    holds(sum(committed) >= 100 and sum(gave_up) <= 2 * sum(committed) and max(most) <= 50, what)
+    in_time(sum(committed) >= 100 and sum(gave_up) <= 2 * sum(committed) and max(most) <= 50, what)
 
 
 def gives_up(peer: Peer) -> None:
