@@ -312,21 +312,22 @@ def pool_is_bounded(mltx: Program) -> None:
         def serve(number: int) -> None:
             with pool.client():
                 served.append(number)
-                time.sleep(0.01)
 
-        with pool.client() as one, pool.client() as other:
-            holds(one is not other, "two clients")
-            pool.timeout = 0.05
-            began = time.monotonic()
-            raised(PoolTimeout, pool.run, lambda tx: tx.up(7, 1))
-            holds(0.05 <= time.monotonic() - began < PATIENCE, "how long it waits")
-            pool.timeout, waiting = None, list[Future[None]]()
-            for number in range(6):
-                waiting.append(threads.submit(serve, number))
-                comes_to_be(lambda: len(pool._waiting) == len(waiting), "it waits")
-        for it in waiting:
-            it.result(PATIENCE)
-        same(sorted(served[:2]) + sorted(served[2:4]) + sorted(served[4:]), list(range(6)), "in which order they are served")
+        with pool.client() as one:
+            with pool.client() as other:
+                holds(one is not other, "two clients")
+                pool.timeout = 0.05
+                began = time.monotonic()
+                raised(PoolTimeout, pool.run, lambda tx: tx.up(7, 1))
+                holds(0.05 <= time.monotonic() - began < PATIENCE, "how long it waits")
+                pool.timeout, waiting = None, list[Future[None]]()
+                for number in range(6):
+                    waiting.append(threads.submit(serve, number))
+                    comes_to_be(lambda: len(pool._waiting) == len(waiting), "it waits")
+            # The other client alone is free from here on, so one is served after the other.
+            for it in waiting:
+                it.result(PATIENCE)
+        same(served, list(range(6)), "in which order they are served")
         same(set(threads.map(lambda _: pool.run(lambda tx: tx.up(7, 1)), range(50))), {Reply.DONE}, "what all are told")
         same(len(pool._free), 2, "the clients that are free")
         same(Operator(*server.admin).status()["connections"], 3, "the connections, with the first one of this test")
