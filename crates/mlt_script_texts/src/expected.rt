@@ -1,10 +1,10 @@
 //! What was expected in place of a faulty line.
 
-use crate::forms::TextKind;
+use crate::forms::{TextKind, WordTable, find_row};
 use crate::hint::push_hint;
 use crate::truth::find_truth;
 use crate::verbose::TextFault;
-use crate::words::first_word;
+use crate::words::{first_word, is_one_of};
 use mlt_text_words::{MOST_LINE_BYTES, trimmed};
 use mlt_types::{Refusal, ScriptCause, TraceCause};
 use std::alloc::{AllocError, Global};
@@ -27,13 +27,7 @@ pub(crate) fn push_expected(
         TextFault::Scripts(cause) | TextFault::Schedule(cause) => match cause {
             ScriptCause::Line => text.push_str(line_text(kind, line))?,
             ScriptCause::Words => return Ok(push_words(alloc, text, kind, line)?),
-            ScriptCause::Place => match (first_word(line), open_if(alloc, read, number)?) {
-                (b"commit" | b"abort", Some(open)) => {
-                    write!(text, "the `if` in line {open} has no `end`; ")?;
-                    text.push_str("expected: an `end` for each `if`")?;
-                }
-                (word, _) => text.push_str(script_place_text(word))?,
-            },
+            ScriptCause::Place => push_script_place(alloc, text, line, read, number)?,
             ScriptCause::Deep => text.push_str("expected: at most 16 nested `if`")?,
             ScriptCause::Long => text.push_str(
                 "expected: at most 256 operations on each path from `begin` to here",
@@ -92,6 +86,27 @@ fn push_words(
     Ok(at)
 }
 
+// Appends what is expected in place of a line of scripts that may not stand there.
+fn push_script_place(
+    alloc: Global,
+    text: &mut String,
+    line: &[u8],
+    read: &[u8],
+    number: u64,
+) -> Result<(), AllocError> {
+    let word = first_word(line);
+    let open = if is_one_of(word, &["commit", "abort"]) {
+        open_if(alloc, read, number)?
+    } else {
+        None
+    };
+    let Some(open) = open else {
+        return text.push_str(script_place_text(word));
+    };
+    write!(text, "the `if` in line {open} has no `end`; ")?;
+    text.push_str("expected: an `end` for each `if`")
+}
+
 // The number of the last line before this one, from 1, that has an `if` without an `end`.
 fn open_if(alloc: Global, read: &[u8], number: u64) -> Result<Option<u64>, AllocError> {
     let mut open = Vec::new(alloc);
@@ -100,41 +115,56 @@ fn open_if(alloc: Global, read: &[u8], number: u64) -> Result<Option<u64>, Alloc
         if at >= number {
             break;
         }
-        match first_word(trimmed(line)) {
-            b"if" => open.push(at)?,
-            b"end" => {
-                open.pop();
-            }
-            _ => (),
+        let word = first_word(trimmed(line));
+        if is_one_of(word, &["if"]) {
+            open.push(at)?;
+        } else if is_one_of(word, &["end"]) {
+            open.pop();
         }
         at = at.saturating_add(1);
     }
     Ok(open.pop())
 }
 
-// Of a line of scripts that may not stand there and closes no open `if`, by its first word.
+// Of lines of scripts that may not stand there and close no open `if`, by their first words.
+static SCRIPT_PLACES: WordTable = &[
+    ("begin", "expected: a `commit` or an `abort` before it"),
+    ("commit", SCRIPT_END),
+    ("abort", SCRIPT_END),
+    ("else", IN_AN_IF),
+    ("end", IN_AN_IF),
+];
+
+const SCRIPT_END: &str = "expected: a `begin` before it, and an `end` for each `if`";
+
+const IN_AN_IF: &str =
+    "expected: an open `if` before it, and before an `else` one that has none yet";
+
+// Of lines of a trace that may not stand there.
+static TRACE_PLACES: WordTable = &[
+    (
+        "begin",
+        "expected: a transaction number above all earlier ones",
+    ),
+    ("op", "expected: an open transaction without a `back`"),
+    (
+        "back",
+        "expected: an open transaction that has an operation left",
+    ),
+    (
+        "commit",
+        "expected: an open transaction without a `back`, and as N the number of earlier commits plus 1",
+    ),
+];
+
 fn script_place_text(word: &[u8]) -> &'static str {
-    match word {
-        b"begin" => "expected: a `commit` or an `abort` before it",
-        b"commit" | b"abort" => "expected: a `begin` before it, and an `end` for each `if`",
-        b"else" | b"end" => {
-            "expected: an open `if` before it, and before an `else` one that has none yet"
-        }
-        _ => "expected: a `begin` before it",
-    }
+    find_row(SCRIPT_PLACES, word).unwrap_or("expected: a `begin` before it")
 }
 
-// Of a line of a trace that may not stand there, by its first word.
 fn trace_place_text(word: &[u8]) -> &'static str {
-    match word {
-        b"begin" => "expected: a transaction number above all earlier ones",
-        b"op" => "expected: an open transaction without a `back`",
-        b"back" => "expected: an open transaction that has an operation left",
-        b"commit" => {
-            "expected: an open transaction without a `back`, and as N the number of earlier commits plus 1"
-        }
-        _ => "expected: an open transaction that has no operation left",
-    }
+    find_row(TRACE_PLACES, word).unwrap_or(
+        "expected: an open transaction that has no operation left",
+    )
 }
 
 // Appends which reply would be true of the operation in this line of a trace.

@@ -2,7 +2,7 @@
 
 use crate::forms::{OPERATIONS, OTHER_NAMES, TextKind, find_nearest, find_row};
 use crate::shown::show_front;
-use crate::words::{WordAt, words_of};
+use crate::words::{WordAt, is_one_of, words_of};
 use mlt_script::read_reply;
 use mlt_text_words::{Word, next_word};
 use std::alloc::{AllocError, Global};
@@ -74,10 +74,12 @@ fn find_hint<'a>(
     let place = operation_place(kind, first.text);
     let operation = place.and_then(|at| words.get(at));
     let replies = operation.and_then(|word| find_row(OPERATIONS, word.text));
-    let found = match (kind, first.text) {
-        (TextKind::Scripts, b"let") => let_hint(words),
-        (TextKind::Scripts, b"if" | b"need") => wanted_hint(words, replies),
-        (TextKind::Trace, b"op") if words.len() > 4 => reply_hint(words.last(), replies),
+    let found = match kind {
+        TextKind::Scripts if is_one_of(first.text, &["let"]) => let_hint(words),
+        TextKind::Scripts if is_one_of(first.text, &["if", "need"]) => wanted_hint(words, replies),
+        TextKind::Trace if is_one_of(first.text, &["op"]) && words.len() > 4 => {
+            reply_hint(words.last(), replies)
+        }
         _ => None,
     };
     if let Some(hint) = found {
@@ -96,11 +98,12 @@ fn find_hint<'a>(
 
 // Which other kind of text a line is of by its first word, if it is of one. Only a `begin` also goes by whether more words follow.
 fn other_text(kind: TextKind, first: &[u8], has_more: bool) -> Option<&'static str> {
-    match (kind, first) {
-        (TextKind::Schedule, b"begin") if has_more => {
+    let is_begin = is_one_of(first, &["begin"]);
+    match kind {
+        TextKind::Schedule if is_begin && has_more => {
             Some("this begins a script for `run` or a trace for `check`; ")
         }
-        (TextKind::Trace, b"begin") if !has_more => {
+        TextKind::Trace if is_begin && !has_more => {
             Some("this begins a script for `solo` and `run`, or a schedule for `steps`; ")
         }
         _ if kind.find_form(first).is_some() => None,
@@ -149,10 +152,11 @@ fn unknown_word<'a>(
 
 // At which word behind the first one of a line of this kind an operation stands.
 fn operation_place(kind: TextKind, first: &[u8]) -> Option<usize> {
-    match (kind, first) {
-        (TextKind::Scripts, b"if" | b"need") => Some(1),
-        (TextKind::Scripts, b"let") => Some(3),
-        (TextKind::Schedule, b"call" | b"whole") | (TextKind::Trace, b"op") => Some(2),
+    match kind {
+        TextKind::Scripts if is_one_of(first, &["if", "need"]) => Some(1),
+        TextKind::Scripts if is_one_of(first, &["let"]) => Some(3),
+        TextKind::Schedule if is_one_of(first, &["call", "whole"]) => Some(2),
+        TextKind::Trace if is_one_of(first, &["op"]) => Some(2),
         _ => None,
     }
 }

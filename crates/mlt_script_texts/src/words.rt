@@ -36,3 +36,8 @@ pub(crate) fn first_word(line: &[u8]) -> &[u8] {
 pub(crate) fn is_remark(line: &[u8]) -> bool {
     !has_word(line) || is_comment_line(line)
 }
+
+/// Whether a word is one of these.
+pub(crate) fn is_one_of(word: &[u8], names: &[&str]) -> bool {
+    names.iter().any(|name| name.as_bytes() == word)
+}

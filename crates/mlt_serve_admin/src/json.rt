@@ -1,9 +1,10 @@
 //! What a server is, in JSON.
 
-use crate::view::{SessionView, WaitView};
+use crate::metrics::{Number, numbers};
+use crate::view::{Counts, SessionView, WaitView};
 use mlt_object_kinds::Done;
 use mlt_types::TxId;
-use serde::{Serialize, Serializer};
+use serde::{Described, Serialize, Serializer};
 use std::fmt::Display;
 
 /// Who waits for whom, as /waits tells it.
@@ -34,11 +35,37 @@ pub(crate) struct NumberedObject {
     pub(crate) value: Option<u64>,
 }
 
-// How fields are written whose types are not those of this crate: a flag is 1 or 0, and what is missing is null.
+impl Described for Counts {}
 
-pub(crate) fn flag<S: Serializer>(is_so: &bool, out: &mut S) -> Result<(), S::Error> {
-    out.u64(u64::from(*is_so))
+impl Serialize for Counts {
+    fn serialize<S: Serializer>(&self, out: &mut S) -> Result<(), S::Error> {
+        let numbers = numbers(self);
+        let (server, others) = numbers.split_at(1);
+        out.begin_map(None)?;
+        all_numbers(server, out)?;
+        out.key("version")?;
+        out.str(self.version)?;
+        out.key("address")?;
+        text_or_null(&self.address, out)?;
+        all_numbers(others, out)?;
+        out.key("transaction_times")?;
+        self.transaction_times.serialize(out)?;
+        out.key("wait_times")?;
+        self.wait_times.serialize(out)?;
+        out.end_map()
+    }
 }
+
+// Each under its key.
+fn all_numbers<S: Serializer>(numbers: &[Number], out: &mut S) -> Result<(), S::Error> {
+    for number in numbers {
+        out.key(number.key)?;
+        out.u64(number.value)?;
+    }
+    Ok(())
+}
+
+// How fields are written whose types are not those of this crate: what is missing is null.
 
 pub(crate) fn number<S: Serializer>(tx: &TxId, out: &mut S) -> Result<(), S::Error> {
     out.u64(tx.0)

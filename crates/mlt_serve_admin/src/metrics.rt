@@ -2,65 +2,103 @@
 
 use crate::view::{Counts, TimesView};
 use std::alloc::{AllocError, Global};
+use std::fmt::{self, Display};
 
-/// One of the numbers of a server: its name behind `mltx_`, `counter` where it never falls and else `gauge`, what it is, and how
-/// much it is.
-type Metric = (&'static str, &'static str, &'static str, u64);
+/// One of the numbers of a server.
+#[derive(Clone, Copy)]
+pub(crate) struct Number {
+    /// Its key in /status.
+    pub(crate) key: &'static str,
+    /// Its name in /metrics, behind `mltx_`.
+    name: &'static str,
+    /// `counter` where it never falls, and else `gauge`.
+    kind: &'static str,
+    /// What it is.
+    words: &'static str,
+    pub(crate) value: u64,
+}
 
 // The rows of a table as an array.
-macro_rules! metrics {
-    ($($name:ident $kind:ident $words:literal $value:expr;)*) => {
-        [$((stringify!($name), stringify!($kind), $words, $value)),*]
+macro_rules! numbers {
+    ($($key:ident $name:ident $kind:ident $words:literal $value:expr;)*) => {
+        [$(Number {
+            key: stringify!($key),
+            name: stringify!($name),
+            kind: stringify!($kind),
+            words: $words,
+            value: $value,
+        }),*]
     };
 }
 
 // All numbers, in the order in which they are written.
-fn metrics(counts: &Counts) -> [Metric; 26] {
-    metrics! {
-        server gauge "A number that the server drew at random when it started." counts.server;
-        uptime_seconds gauge "Seconds since the server began to listen." counts.seconds;
-        sessions gauge "Connections that are being served." counts.sessions;
-        session_threads gauge "Threads that serve sessions." counts.session_threads;
-        queued_connections gauge "Connections that were accepted and are not served yet." counts.queued;
-        connections_total counter "Connections that were accepted." counts.connections;
-        connection_limit gauge "Connections that the server accepts at most." counts.limit;
-        open_transactions gauge "Transactions that are open." counts.open;
-        transactions_begun_total counter "Transactions that were begun." counts.begun;
-        transaction_limit gauge "Transactions that can begin at most." counts.most_begun;
-        operations_total counter "Operations that were done." counts.operations;
-        commits_total counter "Transactions that committed." counts.commits;
-        aborts_total counter "Transactions that aborted." counts.aborts;
-        gave_up_total counter "Operations that were answered GaveUp." counts.gave_up;
-        deadlocks_total counter "Operations that were answered GaveUp to end a deadlock." counts.deadlocks;
-        no_room_total counter "Operations that were answered NoRoom." counts.no_room;
-        events_total counter "Events of the transaction manager." counts.events;
-        history_items gauge "Items of the history that are in memory." counts.items;
-        history_bytes gauge "Bytes of the history and the outcomes in memory." counts.bytes;
-        pages gauge "Pages that are in use." counts.pages;
-        most_pages gauge "Pages that there can be at most." counts.most_pages;
-        directory_depth gauge "Depth of the hash directory." counts.depth;
-        room gauge "Objects that there can be at most, if their pseudokeys spread evenly." counts.room;
-        trace gauge "1 if there is a trace, else 0." u64::from(counts.has_trace);
-        trace_failed gauge "1 if the trace could not be written, else 0." u64::from(counts.trace_failed);
-        stopping gauge "1 if the server is shutting down, else 0." u64::from(counts.is_stopping);
+pub(crate) fn numbers(counts: &Counts) -> [Number; 26] {
+    numbers! {
+        server server gauge "A number that the server drew at random when it started." counts.server;
+        seconds uptime_seconds gauge "Seconds since the server began to listen." counts.seconds;
+        sessions sessions gauge "Connections that are being served." counts.sessions;
+        session_threads session_threads gauge "Threads that serve sessions." counts.session_threads;
+        queued queued_connections gauge "Connections that were accepted and are not served yet." counts.queued;
+        connections connections_total counter "Connections that were accepted." counts.connections;
+        limit connection_limit gauge "Connections that the server accepts at most." counts.limit;
+        open open_transactions gauge "Transactions that are open." counts.open;
+        begun transactions_begun_total counter "Transactions that were begun." counts.begun;
+        most_begun transaction_limit gauge "Transactions that can begin at most." counts.most_begun;
+        operations operations_total counter "Operations that were done." counts.operations;
+        commits commits_total counter "Transactions that committed." counts.commits;
+        aborts aborts_total counter "Transactions that aborted." counts.aborts;
+        gave_up gave_up_total counter "Operations that were answered GaveUp." counts.gave_up;
+        deadlocks deadlocks_total counter "Operations that were answered GaveUp to end a deadlock." counts.deadlocks;
+        no_room no_room_total counter "Operations that were answered NoRoom." counts.no_room;
+        events events_total counter "Events of the transaction manager." counts.events;
+        items history_items gauge "Items of the history that are in memory." counts.items;
+        bytes history_bytes gauge "Bytes of the history and the outcomes in memory." counts.bytes;
+        pages pages gauge "Pages that are in use." counts.pages;
+        most_pages most_pages gauge "Pages that there can be at most." counts.most_pages;
+        depth directory_depth gauge "Depth of the hash directory." counts.depth;
+        room room gauge "Objects that there can be at most, if their pseudokeys spread evenly." counts.room;
+        trace trace gauge "1 if there is a trace, else 0." u64::from(counts.has_trace);
+        trace_failed trace_failed gauge "1 if the trace could not be written, else 0." u64::from(counts.trace_failed);
+        stopping stopping gauge "1 if the server is shutting down, else 0." u64::from(counts.is_stopping);
     }
 }
 
 /// The numbers, as /metrics tells them.
 pub(crate) fn metrics_text(alloc: Global, counts: &Counts) -> Result<String, AllocError> {
     let mut text = String::new(alloc);
-    for (name, kind, words, value) in &metrics(counts) {
-        write!(
-            text,
-            "# HELP mltx_{name} {words}\n# TYPE mltx_{name} {kind}\n"
-        )?;
-        write!(text, "mltx_{name} {value}\n")?;
+    for number in &numbers(counts) {
+        push_number(&mut text, number)?;
     }
     let words = "Seconds from the answer to begin to the end of the transaction.";
     push_times(&mut text, "transaction", words, &counts.transaction_times)?;
     let words = "Seconds for which an operation waited for other transactions.";
     push_times(&mut text, "wait", words, &counts.wait_times)?;
     Ok(text)
+}
+
+// The lines of a number.
+fn push_number(text: &mut String, number: &Number) -> Result<(), AllocError> {
+    let Number {
+        key: _,
+        name,
+        kind,
+        words,
+        value,
+    } = number;
+    write!(text, "# HELP mltx_{name} {words}\n")?;
+    write!(text, "# TYPE mltx_{name} {kind}\n")?;
+    write!(text, "mltx_{name} {value}\n")
+}
+
+// So many microseconds, in seconds.
+#[derive(Clone, Copy)]
+struct Seconds(u64);
+
+impl Display for Seconds {
+    fn fmt<W: fmt::Write>(&self, f: &mut fmt::Formatter<W>) -> fmt::Result {
+        let (seconds, rest) = (self.0 / 1_000_000, self.0 % 1_000_000);
+        write!(f, "{seconds}.{rest:06}")
+    }
 }
 
 // The lines of a histogram.
@@ -75,16 +113,21 @@ fn push_times(
     let mut sum: u64 = 0;
     for (count, bound) in times.counts.iter().zip(times.bounds.iter()) {
         sum = sum.wrapping_add(*count);
-        let (seconds, rest) = (bound / 1_000_000, bound % 1_000_000);
-        write!(
-            text,
-            "mltx_{name}_seconds_bucket{{le=\"{seconds}.{rest:06}\"}} {sum}\n"
-        )?;
+        push_bucket(text, name, &Seconds(*bound), sum)?;
     }
     sum = sum.wrapping_add(times.counts[times.bounds.len()]);
-    let microseconds = times.microseconds;
-    let (seconds, rest) = (microseconds / 1_000_000, microseconds % 1_000_000);
-    write!(text, "mltx_{name}_seconds_bucket{{le=\"+Inf\"}} {sum}\n")?;
-    write!(text, "mltx_{name}_seconds_sum {seconds}.{rest:06}\n")?;
+    push_bucket(text, name, &"+Inf", sum)?;
+    let seconds = Seconds(times.microseconds);
+    write!(text, "mltx_{name}_seconds_sum {seconds}\n")?;
     write!(text, "mltx_{name}_seconds_count {sum}\n")
+}
+
+// The line of a bucket: so many took no longer than its bound.
+fn push_bucket<B: Display>(
+    text: &mut String,
+    name: &str,
+    bound: &B,
+    sum: u64,
+) -> Result<(), AllocError> {
+    write!(text, "mltx_{name}_seconds_bucket{{le=\"{bound}\"}} {sum}\n")
 }

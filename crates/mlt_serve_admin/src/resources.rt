@@ -72,14 +72,14 @@ fn fixed_resource(path: &str) -> Option<Resource>
     ensures some { IfSome result (IsAt path.now) }
     ensures none { IfNone result (IsAtNoFixedPath path.now) }
 {
-    match path.as_bytes() {
-        b"/" => Some(Resource::Page),
-        b"/status" => Some(Resource::Status),
-        b"/metrics" => Some(Resource::Metrics),
-        b"/waits" => Some(Resource::Waits),
-        b"/sessions" => Some(Resource::Sessions),
-        b"/base" => Some(Resource::Base),
-        b"/stop" => Some(Resource::Stop),
+    match path {
+        _ if path == "/" => Some(Resource::Page),
+        _ if path == "/status" => Some(Resource::Status),
+        _ if path == "/metrics" => Some(Resource::Metrics),
+        _ if path == "/waits" => Some(Resource::Waits),
+        _ if path == "/sessions" => Some(Resource::Sessions),
+        _ if path == "/base" => Some(Resource::Base),
+        _ if path == "/stop" => Some(Resource::Stop),
         _ => None,
     }
 }

@@ -53,34 +53,21 @@ pub fn serve_admin<R: Wait + Clock, O: Operated>(
     is_over: &AtomicBool,
 ) {
     let mut service = OperatorService { alloc, operated };
-    let mut visits = Vec::new(alloc);
-    let mut reserve = Vec::<u8>::new(alloc);
+    let mut visits = Visits::new(alloc, keys);
     // Where this fails an accept waits for a connection, and slow ones until then.
     let _ = limit_accepts(listener);
     for _ in rt.forever() {
-        if visits.is_empty() {
-            // Where this fails the next connection has to do without.
-            let _ = reserve.reserve_exact(RESERVE);
-        }
+        visits.keep_memory();
         let accepted = listener.accept();
         if is_over.load(Ordering::SeqCst) {
             return;
         }
         match accepted {
-            Ok((stream, _)) => {
-                reserve.shrink_to(0);
-                if visits.len() >= PLACES {
-                    visits.remove(0);
-                }
-                // What fails here is its client's loss alone.
-                if let Ok(visit) = Visit::begin(rt, alloc, keys, stream) {
-                    let _ = visits.push(visit);
-                }
-            }
+            Ok((stream, _)) => visits.admit(rt, stream),
             Err(error) if error.kind() == ErrorKind::WouldBlock => (),
             Err(_) => thread::sleep(rt, Duration::from_millis(PAUSE)),
         }
-        visits.retain_mut(|visit| visit.goes_on(rt, &mut service));
+        visits.go_on(rt, &mut service);
     }
 }
 
@@ -88,6 +75,58 @@ pub fn serve_admin<R: Wait + Clock, O: Operated>(
 fn limit_accepts(listener: &TcpListener) -> io::Result<()> {
     let socket = OwnedFd::from(listener.try_clone()?);
     TcpStream::from(socket).set_read_timeout(Some(Duration::from_millis(PAUSE)))
+}
+
+/// The connections of a thread that are not done, the oldest first.
+#[derive(Drop)]
+struct Visits {
+    alloc: Global,
+    keys: RandomState,
+    visits: Vec<Visit>,
+    /// Memory for a request that comes where no more can be had.
+    reserve: Vec<u8>,
+}
+
+impl Visits {
+    fn new(alloc: Global, keys: RandomState) -> Visits {
+        Visits {
+            alloc,
+            keys,
+            visits: Vec::new(alloc),
+            reserve: Vec::new(alloc),
+        }
+    }
+
+    /// Keeps some memory for the next connection, where there is none.
+    fn keep_memory(&mut self) {
+        if self.visits.is_empty() {
+            // Where this fails the next connection has to do without.
+            let _ = self.reserve.reserve_exact(RESERVE);
+        }
+    }
+
+    /// Closes the oldest, where all places are taken.
+    fn make_room(&mut self) {
+        self.reserve.shrink_to(0);
+        if self.visits.len() >= PLACES {
+            self.visits.remove(0);
+        }
+    }
+
+    /// Takes in the connection of a client that has just connected.
+    fn admit<C: Clock>(&mut self, clock: &C, stream: TcpStream) {
+        self.make_room();
+        // What fails here is its client's loss alone.
+        if let Ok(visit) = Visit::begin(clock, self.alloc, self.keys, stream) {
+            let _ = self.visits.push(visit);
+        }
+    }
+
+    /// Goes on with each, and closes those that are done.
+    fn go_on<C: Clock, O: Operated>(&mut self, clock: &C, service: &mut OperatorService<'_, O>) {
+        self.visits
+            .retain_mut(|visit| visit.goes_on(clock, service));
+    }
 }
 
 /// A connection that is not done.
@@ -107,21 +146,20 @@ impl Visit {
         stream: TcpStream,
     ) -> io::Result<Visit> {
         let since = Instant::now(clock)?;
+        stream.set_read_timeout(Some(Duration::from_millis(FIRST_READ)))?;
         let config = Config {
             max_body_len: MAX_BODY,
             ..Config::default()
         };
-        let mut connection = Connection::new(alloc, keys, config);
-        stream.set_read_timeout(Some(Duration::from_millis(FIRST_READ)))?;
-        let mut socket = &stream;
-        // If nothing has come, or this failed, the next read says so.
-        let _ = connection.read_from(&mut socket);
-        stream.set_nonblocking(true)?;
-        Ok(Visit {
-            connection,
+        let mut visit = Visit {
+            connection: Connection::new(alloc, keys, config),
             stream,
             since,
-        })
+        };
+        // If nothing has come, or this failed, the next read says so.
+        let _ = visit.connection.read_from(&mut &visit.stream);
+        visit.stream.set_nonblocking(true)?;
+        Ok(visit)
     }
 
     /// Reads, answers and writes what it can without a wait. Returns whether something is left to do, and time for it.

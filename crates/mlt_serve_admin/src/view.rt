@@ -1,6 +1,6 @@
 //! What a server is at one moment.
 
-use crate::json::{all_done, flag, number, text_or_null};
+use crate::json::{all_done, number, text_or_null};
 use mlt_object_kinds::{Done, ObjOp};
 use mlt_types::TxId;
 use serde::Serialize;
@@ -47,14 +47,13 @@ pub struct ObjectView {
 }
 
 /// The numbers of a whole server. What is counted is counted since the server began.
-#[derive(Clone, Copy, Serialize)]
+#[derive(Clone, Copy)]
 pub struct Counts {
     /// A number that was drawn at random when the server began.
     pub server: u64,
     /// The version of the program.
     pub version: &'static str,
     /// Where clients connect, if the system could say so.
-    #[serde(serialize_with = "text_or_null")]
     pub address: Option<SocketAddr>,
     /// For how many seconds the server has listened.
     pub seconds: u64,
@@ -101,13 +100,10 @@ pub struct Counts {
     /// How many objects there can be, if their pseudokeys spread evenly.
     pub room: u64,
     /// Whether there is a trace.
-    #[serde(rename = "trace", serialize_with = "flag")]
     pub has_trace: bool,
     /// Whether the trace could not be written.
-    #[serde(serialize_with = "flag")]
     pub trace_failed: bool,
     /// Whether the server was told to end.
-    #[serde(rename = "stopping", serialize_with = "flag")]
     pub is_stopping: bool,
     /// How long transactions took.
     pub transaction_times: TimesView,
