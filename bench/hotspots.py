@@ -1,5 +1,6 @@
 """What is measured of transactions that all change the same counter or account, with and without time to think, of which some
 are aborted."""
+import math
 import socket
 import sys
 import tempfile
@@ -13,7 +14,7 @@ import tools
 from machine import LOCAL, ROOT, START, Failed, Server, Words, redis, run
 from postgres import RICH
 from sessions import CLIENT_THREADS, Load, figures_of, mltx_server, open_accounts, transaction
-from works import SECONDS, Bench, Group, Limit, Sample, Side, Work
+from works import Bench, Group, Limit, Sample, Side, Work
 
 sys.path.insert(0, str(ROOT / "tools"))
 from pictures.plot import Curve, picture  # noqa: E402
@@ -152,7 +153,7 @@ def on_redis(load: Load, bench: Bench, _program: Path) -> Sample:
 
 
 def on_postgres(case: Case, begin: str, bench: Bench, _program: Path) -> Sample:
-    limit = bench.pick(["--time", SECONDS], ["--transactions", max(1, FEW // case.clients)])
+    limit = bench.pick(["--time", math.ceil(bench.seconds)], ["--transactions", max(1, FEW // case.clients)])
     programs = bench.tools.paths["postgres"]
     told = postgres.load(programs, bench.folder, case.on_postgres(begin), case.clients, case.threads(), HOT + 1, limit)
     lost = told.lost / max(told.ended, 1)

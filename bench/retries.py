@@ -13,7 +13,7 @@ from sessions import (
     ALONE, BEGIN, CLIENT_THREADS, GAVE_UP, Load, Session, beside, figures, loading, mltx_server, must_answer, open_accounts,
     rate, session, transaction,
 )
-from works import SECONDS, Bench, Group, Limit, Sample, Side, Work
+from works import Bench, Group, Limit, Sample, Side, Work
 
 ACCOUNTS = range(4)
 
@@ -42,7 +42,7 @@ def tries(told: dict[str, float]) -> dict[str, float]:
 
 def limit(bench: Bench, more: float = 0.0) -> Limit:
     """Where a load ends of which perhaps no transaction ever does."""
-    return Limit(bench.pick(SECONDS, 0.2) + more)
+    return Limit(bench.pick(bench.seconds, 0.2) + more)
 
 
 def commits(load: Load, bench: Bench, program: Path) -> Sample:

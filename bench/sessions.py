@@ -1,4 +1,5 @@
 """What is measured over sessions: loads of many clients, and sessions that hold something."""
+import math
 import os
 import statistics
 import sys
@@ -12,7 +13,7 @@ from pathlib import Path
 import postgres
 from machine import LOCAL, PATIENCE, PIPES, ROOT, Failed, Process, Server, busy, ended, listening, redis, started
 from postgres import RICH
-from works import SECONDS, Bench, Group, Limit, Sample, Side, Work
+from works import Bench, Group, Limit, Sample, Side, Work
 
 sys.path.insert(0, str(ROOT / "clients/python"))
 from mltx import MltxError as MltxError, Session, TimedOut  # noqa: E402
@@ -108,7 +109,7 @@ def load_on_echo(load: Load, bench: Bench, _program: Path) -> Sample:
 
 
 def load_on_postgres(load: Load, bench: Bench, _program: Path) -> Sample:
-    limit = bench.pick(["--time", SECONDS], ["--transactions", 20])
+    limit = bench.pick(["--time", math.ceil(bench.seconds)], ["--transactions", 20])
     scripts = [postgres.Weighed(postgres.script(len(load.lines) - 2, load.counters))]
     told = postgres.load(
         bench.tools.paths["postgres"], bench.folder, scripts, load.connections, load.threads, load.counters, limit
@@ -243,7 +244,7 @@ CROSSED = [Load(transaction("up 1 1", "read 2")), Load(transaction("up 2 1", "re
 
 def beside(loads: Sequence[Load], bench: Bench, server: Server) -> tuple[dict[str, float], list[dict[str, float]]]:
     """What is told of a client while there are these loads in which it has no part, and of these."""
-    limit = Limit(bench.pick(SECONDS, 0.1) + 0.2)
+    limit = Limit(bench.pick(bench.seconds, 0.1) + 0.2)
     with ExitStack() as stack:
         processes = [stack.enter_context(loading(bench, server.port, load, limit)) for load in loads]
         told = figures_of(bench, server.port, OTHERS)

@@ -9,8 +9,8 @@ from machine import PATIENCE
 from texts import Scripts
 from tools import Tools
 
-# How long a load lasts.
-SECONDS = 2
+# How long a load lasts where that is not given.
+SECONDS = 2.0
 
 Size = TypeVar("Size")
 
@@ -24,12 +24,14 @@ class Limit(NamedTuple):
 
 @dataclass
 class Bench:
-    """What all measurements share: a folder of their own, the tools, how large a work is, and where chance begins."""
+    """What all measurements share: a folder of their own, the tools, how large a work is, where chance begins, and how many
+    seconds a load lasts."""
 
     folder: Path
     tools: Tools
     quick: bool
     seed: int
+    seconds: float = SECONDS
     files: dict[str, tuple[Path, int]] = field(default_factory=dict)
 
     def pick(self, full: Size, quick: Size) -> Size:
@@ -38,7 +40,7 @@ class Bench:
 
     def limit(self, few: int = 200) -> Limit:
         """Where a load ends: after so many seconds, or where it is quick after a few transactions, however long they take."""
-        return self.pick(Limit(SECONDS), Limit(PATIENCE, few))
+        return self.pick(Limit(self.seconds), Limit(PATIENCE, few))
 
     def file(self, name: str, make: Callable[[random.Random], Scripts]) -> tuple[Path, int]:
         """A file with scripts that are made once, and how many operations they ask."""
