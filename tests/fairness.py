@@ -249,4 +249,4 @@ def long_transactions_get_through_beside_short_ones(mltx: Program) -> None:
             told = list(threads.map(lambda it: moves(ended, peers[it[0]], *it), enumerate(work)))
     long = sum(4 * committed for committed, _ in told[:2])
     short = sum(committed for committed, _ in told[2:])
-    in_time(5 * long > short > 0 and max(most for _, most in told) <= 30, f"moves: {long} in long ones, {short} in short; {told}")
+    holds(5 * long > short > 0 and max(most for _, most in told) <= 30, f"moves: {long} in long ones, {short} in short; {told}")

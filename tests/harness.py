@@ -63,7 +63,8 @@ class Failed(Exception):
 
 
 class TooSlow(Failed):
-    """Something took too long, or too little was done in some time. Other programs may be why, so the test is run once more."""
+    """Something took too long, or too little was done in some time. Other programs may be why, so the test is run once more.
+    Shares and numbers of tries are no such thing."""
 
 
 @dataclasses.dataclass(frozen=True)

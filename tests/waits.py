@@ -268,7 +268,8 @@ def clients_that_begin_again_at_once_get_through(mltx: Program) -> None:
         expect(server.end(), out=f"served {clients + 1}\n")
     committed, gave_up, most = (list(of_all) for of_all in zip(*ends))
     what = f"each committed {committed} and gave up {gave_up}, and tried one at most {most} times"
-    in_time(sum(committed) >= 100 and sum(gave_up) <= 2 * sum(committed) and max(most) <= 50, what)
+    in_time(sum(committed) >= 100, what)
+    holds(sum(gave_up) <= 2 * sum(committed) and max(most) <= 50, what)
 
 
 def gives_up(peer: Peer) -> None:
