@@ -7,7 +7,7 @@ use crate::tuning::ANSWERS_PER_TURN;
 use mlt_event::{Answer, Told};
 use mlt_object_kinds::ObjOp;
 use mlt_serve_seats::Sitting;
-use mlt_work_waits::{Gate, is_to_wait};
+use mlt_work_waits::{Gate, Notice, is_to_wait};
 use std::cell::Cell;
 use std::io;
 use std::io::{Read, Write};
@@ -16,7 +16,7 @@ use std::time::Clock;
 
 /// The way of a session. It goes to work with the lines that it has read, and leaves before it writes their answers, before it reads on,
 /// and where an operation is to wait, which so keeps nobody from work. Once awake it goes on outside, since it may have locks for which
-/// others wait. One that yields before a call, since another has precedence, stays at work as it sleeps.
+/// others wait.
 pub struct Admission<'a, R: Wait + Clock> {
     rt: &'a R,
     admission_queue: &'a AdmissionQueue,
@@ -104,18 +104,19 @@ impl<R: Wait + Clock> Gate for Admission<'_, R> {
         self.sitting.call(op);
     }
 
-    fn rest(&self, _client: u32) {
-        self.sitting.rest();
-        self.leave();
+    fn notice(&self, _client: u32, notice: Notice) {
+        match notice {
+            Notice::WaitsForTurn => {
+                self.sitting.rest();
+                self.leave();
+            }
+            Notice::IsVictim => self.sitting.deadlock(),
+        }
     }
 
     #[inline(always)]
     fn is_patient(&self, _client: u32) -> bool {
         self.sitting.is_patient()
-    }
-
-    fn deadlock(&self, _client: u32) {
-        self.sitting.deadlock();
     }
 
     #[inline(always)]

@@ -14,13 +14,12 @@ use crate::lock_desk::LockDesk;
 use crate::made_with::MadeWith;
 use crate::shared::Shared;
 use crate::tries::{Tries, TriesLeft};
-use crate::tuning::WAITS_BEFORE_PRECEDENCE;
 use mlt_event::{Answer, Event, Told};
 use mlt_object_kinds::{ObjOp, ObjReply};
 use mlt_script_serial::{Answering, Desk, DeskAnswer};
 use mlt_types::{Pseudo, Refusal, TxId};
 use mlt_work_log::LogSnapshot;
-use mlt_work_waits::{Gate, SleepingThread, Turn, Wakers, goes_on, is_done};
+use mlt_work_waits::{Gate, Notice, SleepingThread, Turn, Wakers, goes_on, is_done};
 use std::sync::Wait;
 use std::sync::ledger::Share;
 
@@ -65,7 +64,6 @@ impl<'a, P: Pseudo, L: MadeWith<P>, R: Wait, G: Gate> LockDesk<'a, P, L, R, G> {
                 tx: TxId(0),
                 timestamp: 0,
                 waker,
-                takes_precedence: false,
                 op: ObjOp::Size(0),
             },
             is_asleep: false,
@@ -148,8 +146,7 @@ impl<'a, P: Pseudo, L: MadeWith<P>, R: Wait, G: Gate> LockDesk<'a, P, L, R, G> {
             ..
         } = self;
         *events = events.saturating_add(1);
-        let is_call = matches!(event, Event::Call(..));
-        let mut state = shared.enter(*rt, thread, *is_asleep, is_call);
+        let mut state = shared.enter(*rt, thread, *is_asleep);
         *is_asleep = false;
         let log = &shared.log;
         let (told, turn) = state.act(event, share, may_sleep, thread, log, snapshot, wakers);
@@ -179,7 +176,6 @@ impl<'a, P: Pseudo, L: MadeWith<P>, R: Wait, G: Gate> LockDesk<'a, P, L, R, G> {
         ensures tries { self.new.tries ≡ self.old.tries }
     {
         self.thread.tx = tx;
-        self.thread.takes_precedence = false;
     }
 
     /// The transaction is to call the operation that it is in. Where others are blocked in operations that may clash with it, the desk
@@ -212,7 +208,7 @@ impl<'a, P: Pseudo, L: MadeWith<P>, R: Wait, G: Gate> LockDesk<'a, P, L, R, G> {
         drop(state);
         if queues {
             self.is_asleep = true;
-            self.gate.rest(self.client);
+            self.gate.notice(self.client, Notice::WaitsForTurn);
         }
     }
 
@@ -227,7 +223,6 @@ impl<'a, P: Pseudo, L: MadeWith<P>, R: Wait, G: Gate> LockDesk<'a, P, L, R, G> {
         ensures op { self.new.thread.op ≡ self.old.thread.op }
     {
         self.tries.spend();
-        self.thread.takes_precedence = self.tries.waited >= WAITS_BEFORE_PRECEDENCE;
         self.tries.left == 0 || turn == Turn::Deadlock || !self.tries.is_patient
     }
 
@@ -242,7 +237,7 @@ impl<'a, P: Pseudo, L: MadeWith<P>, R: Wait, G: Gate> LockDesk<'a, P, L, R, G> {
         ensures tries { self.new.tries ≡ self.old.tries }
     {
         if turn == Turn::Deadlock {
-            self.gate.deadlock(self.client);
+            self.gate.notice(self.client, Notice::IsVictim);
         }
         self.hold(Event::Cancel(self.thread.tx), false);
         self.keeps_timestamp = true;

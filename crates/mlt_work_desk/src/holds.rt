@@ -12,7 +12,7 @@ ghost use Rattle.mlt_trace.specs.Numbers.{begun_txs};
 ghost use Rattle.mlt_work_log.specs.Seats.{IsOf, IsWriterOf, begun_by, first_items, id_of, past_of, seen_by};
 ghost use Rattle.mlt_work_desk.specs.Holds.{EndsWithOp, HasBegun, IfReply, SeesEvent, txs_begun};
 ghost use Rattle.mlt_work_desk.specs.Makings.{making_by};
-ghost use Rattle.mlt_work_waits.specs.Turns.{given_back_by, precedence_after, precedence_if, queue_after, queue_if, TurnsIfWaits, wait_if, waits_after, woken_by};
+ghost use Rattle.mlt_work_waits.specs.Turns.{given_back_by, queue_after, queue_if, TurnsIfWaits, wait_if, waits_after, woken_by};
 
 use crate::locked_state::LockedState;
 use crate::made_with::MadeWith;
@@ -97,9 +97,6 @@ impl<P: Pseudo, L: MadeWith<P>> LockedState<P, L> {
             result.1 self.new.desks.waits woken }
         ensures queue { self.new.desks.queue ≡ queue_if may_sleep result.0 thread.now
             (queue_after (given_back_by event result.0) self.old.desks.queue) }
-        ensures precedence { self.new.desks.precedence
-            ≡ precedence_if may_sleep result.0 thread.now
-            (precedence_after (given_back_by event result.0) self.old.desks.precedence) }
     {
         let LockedState {
             manager,

@@ -73,21 +73,16 @@ impl<P: Pseudo, L: MadeWith<P>> Shared<P, L> {
         self.state.lock(rt)
     }
 
-    /// The state for a desk's next event, once nobody else has it and the desk is awake, if it sleeps. One that is to call an
-    /// operation then yields where another has precedence.
+    /// The state for a desk's next event, once nobody else has it and the desk is awake, if it sleeps.
     #[inline(always)]
     pub(crate) fn enter<R: Wait>(
         &self,
         rt: &R,
         thread: &SleepingThread,
         is_asleep: bool,
-        is_call: bool,
     ) -> MutexGuard<'_, LockedState<P, L>> {
-        let mut state = self.lock(rt);
+        let state = self.lock(rt);
         if is_asleep {
-            state = self.sleep(rt, state, thread);
-        }
-        if is_call && state.desks.yields(thread) {
             return self.sleep(rt, state, thread);
         }
         state

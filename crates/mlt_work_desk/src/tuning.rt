@@ -1,9 +1,5 @@
 //! What may be tuned. Beside each stands the group of `bench/run` that shows what it does.
 
-/// How many times an operation gets Waiting before it takes precedence. No load shows what it is worth: in `readers`, where an
-/// insert doubles the directory beside 14 that never pause, the insert hardly ever waits twice.
-pub(crate) const WAITS_BEFORE_PRECEDENCE: u64 = 8;
-
 /// How many times a thread looks again at a lock that is taken before it sleeps. By `connections`.
 pub(crate) const LOCK_SPINS: u32 = 16;
 

@@ -1,5 +1,5 @@
 -- How desks wait, and what wakes them.
-use Rattle.std.specs.Prelude.{ℕ, ◌≡◌, ◌==◌, ◌+◌, ◌<◌, ◌≤◌, ◌⊎◌, nat_lt, length, if◌then◌else◌, Bool, true, false, List, [], ◌++◌, ◌||◌, is_some, Option, None, Some}
+use Rattle.std.specs.Prelude.{ℕ, ◌≡◌, ◌+◌, ◌<◌, ◌≤◌, ◌⊎◌, nat_lt, length, if◌then◌else◌, Bool, true, false, List, [], ◌++◌, ◌||◌, is_some, Option, None, Some}
 use Rattle.std.specs.List.{list_all}
 use Rattle.mlt_event.specs.declared.{answer.Answer.Answer, event.Event.Event, told.Told.Told}
 use Rattle.mlt_work_waits.specs.Waits.{Waits, CanJoin, CantJoin, Deadlocks, IsYoungest, joined, nobody_waits, released, wakers_in}
@@ -186,21 +186,3 @@ queue_with other thread queue = queue
 abbrev pub queue_if : Bool → Told → SleepingThread → List Blocked → List Blocked
 queue_if true told thread queue = queue_with told thread queue
 queue_if false told thread queue = queue
-
--- who has precedence once locks were given back: no longer one that did so
-abbrev pub precedence_after : GivenBack → Option ℕ → Option ℕ
-precedence_after (GivenBack.All x) (Some y) = if x == y then None else Some y
-precedence_after (GivenBack.Operation x) (Some y) = if x == y then None else Some y
-precedence_after (GivenBack.Pages x) (Some y) = if x == y then None else Some y
-precedence_after other before = before
-
--- who has precedence once a sleeping thread was told this: one that waits for pages and takes it, if nobody has it yet
-abbrev pub precedence_with : Told → SleepingThread → Option ℕ → Option ℕ
-precedence_with (Told.Answered (Answer.Waiting page by)) thread None =
-    if thread.takes_precedence then Some thread.tx else None
-precedence_with other thread before = before
-
--- and if it may sleep
-abbrev pub precedence_if : Bool → Told → SleepingThread → Option ℕ → Option ℕ
-precedence_if true told thread before = precedence_with told thread before
-precedence_if false told thread before = before

@@ -1,9 +1,9 @@
-//! The desks over a lock, which of them wait, who is blocked, and which has precedence.
+//! The desks over a lock, which of them wait, and who is blocked.
 
 ghost use Rattle.std.specs.Prelude.{ℕ, ◌≡◌, ◌++◌, ◌+◌, ◌-◌, ◌<◌, ◌≤◌, ◌^◌, ◌⊎◌, [], List, true, false, None, Some, length, min};
 ghost use Rattle.mlt_work_waits.specs.Waits.{joined, nobody_waits};
 ghost use Rattle.mlt_work_waits.specs.Queues.{last_before};
-ghost use Rattle.mlt_work_waits.specs.Turns.{AreInTurn, CanSleep, CantSleep, given_back_by, ObjectTurns, PageTurns, precedence_after, precedence_if, queue_after, queue_if, turn_behind, TurnsIfWaits, wait_for, wait_if, waiting, waits_after, waits_in_turn, waits_of_others, waits_without, woken_by, woken_by_end, woken_of};
+ghost use Rattle.mlt_work_waits.specs.Turns.{AreInTurn, CanSleep, CantSleep, given_back_by, ObjectTurns, PageTurns, queue_after, queue_if, turn_behind, TurnsIfWaits, wait_for, wait_if, waiting, waits_after, waits_in_turn, waits_of_others, waits_without, woken_by, woken_by_end, woken_of};
 
 use crate::blocked_queue::BlockedQueue;
 use crate::turn::{GivenBack, SleepingThread, Turn, given_back, wait_for};
@@ -24,8 +24,6 @@ pub struct Desks {
     pub waits: WaitsFor,
     /// The transactions that were blocked in the operation that they are in. Others wait for their turn behind them.
     pub queue: BlockedQueue,
-    /// The transaction that has precedence: others yield to it before they call an operation.
-    pub precedence: Option<TxId>,
     ghost awake: { waiting waits ≤ count - 1 },
     ghost turns: { AreInTurn waits.objects queue },
 }
@@ -36,14 +34,12 @@ impl Desks {
         ensures count { result.count ≡ 0 }
         ensures waits { result.waits ≡ nobody_waits }
         ensures queue { result.queue ≡ [] }
-        ensures precedence { result.precedence ≡ None }
     {
         Desks {
             count: 0,
             taken: 0,
             waits: WaitsFor::new(),
             queue: BlockedQueue::new(),
-            precedence: None,
         }
     }
 
@@ -51,7 +47,6 @@ impl Desks {
     pub fn enter(&mut self) -> Waker
         ensures count { self.new.count ≡ min (self.old.count + 1) (2 ^ 64 - 1) }
         ensures waits { self.new.waits ≡ self.old.waits }
-        ensures precedence { self.new.precedence ≡ self.old.precedence }
         ensures queue { self.new.queue ≡ self.old.queue }
     {
         let lowest = self.taken.trailing_ones();
@@ -67,7 +62,6 @@ impl Desks {
         ensures count { self.new.count ≡ self.old.count - 1 }
         ensures waits { self.new.waits ≡ waits_of_others self.old.count self.old.waits }
         ensures wakes { wakers.new.items ≡ woken_by_end self.old.count self.old.waits }
-        ensures precedence { self.new.precedence ≡ self.old.precedence }
         ensures queue { self.new.queue ≡ self.old.queue }
     {
         let Waker(number) = waker;
@@ -81,8 +75,8 @@ impl Desks {
     }
 
     /// What a desk does after an event that was told this. It may sleep or not; where it is to wait, and may sleep, it does so as this
-    /// thread. If it is blocked it stands in the queue from now on. If it waits for pages and takes precedence it has it, unless another
-    /// does. Each desk that waits for what the event has given back is awake then, and its waker is added.
+    /// thread. If it is blocked it stands in the queue from now on. Each desk that waits for what the event has given back is awake
+    /// then, and its waker is added.
     #[inline(always)]
     pub fn turn_after(
         &mut self,
@@ -100,9 +94,6 @@ impl Desks {
             result self.new.waits woken }
         ensures queue { self.new.queue ≡ queue_if may_sleep told.now thread.now
             (queue_after (given_back_by event.now told.now) self.old.queue) }
-        ensures precedence { self.new.precedence
-            ≡ precedence_if may_sleep told.now thread.now
-            (precedence_after (given_back_by event.now told.now) self.old.precedence) }
         ensures count { self.new.count ≡ self.old.count }
     {
         // Most events only go on with an operation: they give nothing back, and need not wait.
@@ -119,9 +110,6 @@ impl Desks {
                 self.wait_for_object(wait_for(thread, *by), wakers)
             }
             Told::Answered(Answer::Waiting { by, .. }) => {
-                if thread.takes_precedence {
-                    self.precedence = self.precedence.or(Some(thread.tx));
-                }
                 self.wait_for_page(wait_for(thread, *by), wakers)
             }
             _ => Turn::Goes,
@@ -138,10 +126,8 @@ impl Desks {
         ensures wakes { wakers.new.items ≡ woken_by given self.old.waits }
         ensures few { length wakers.new.items ≤ 128 }
         ensures queue { self.new.queue ≡ queue_after given self.old.queue }
-        ensures precedence { self.new.precedence ≡ precedence_after given self.old.precedence }
         ensures count { self.new.count ≡ self.old.count }
     {
-        self.precedence = precedence_after(&given, self.precedence);
         match given {
             GivenBack::All(tx) => {
                 self.queue.remove(tx);
@@ -164,7 +150,6 @@ impl Desks {
         requires { wakers.old.items ≡ [] }
         ensures waits { self.new.waits ≡ waits_without tx self.old.waits }
         ensures wakes { wakers.new.items ≡ woken_of tx self.old.waits }
-        ensures precedence { self.new.precedence ≡ self.old.precedence }
         ensures queue { self.new.queue ≡ self.old.queue }
         ensures count { self.new.count ≡ self.old.count }
     {
@@ -184,7 +169,6 @@ impl Desks {
         ensures turns { (woken : List Waker) × (wakers.new.items ≡ wakers.old.items ++ woken)
             × ObjectTurns self.old.count wait self.old.waits result self.new.waits woken }
         ensures queue { self.new.queue ≡ self.old.queue }
-        ensures precedence { self.new.precedence ≡ self.old.precedence }
         ensures count { self.new.count ≡ self.old.count }
     {
         if let Some(youngest) = self.waits.youngest(&wait) {
@@ -212,7 +196,6 @@ impl Desks {
         ensures turns { (woken : List Waker) × (wakers.new.items ≡ wakers.old.items ++ woken)
             × PageTurns self.old.count wait self.old.waits result self.new.waits woken }
         ensures queue { self.new.queue ≡ self.old.queue }
-        ensures precedence { self.new.precedence ≡ self.old.precedence }
         ensures count { self.new.count ≡ self.old.count }
     {
         if self.join(Awaited::Pages, wait) {
@@ -220,25 +203,6 @@ impl Desks {
         }
         self.waits.release(Awaited::Pages, Whose::All, wakers);
         Turn::Goes
-    }
-
-    /// One is about to call an operation. Where another has precedence it yields, that is it waits for the pages of that one, if
-    /// another desk is awake and its wait can join. It answers whether it does.
-    #[inline]
-    pub fn yields(&mut self, thread: &SleepingThread) -> bool
-        ensures yields { result ≡ true → (y : ℕ) × (self.old.precedence ≡ Some y)
-            × CanSleep self.old.count Awaited.Pages (wait_for thread.now y) self.old.waits
-            × (self.new.waits ≡ joined Awaited.Pages (wait_for thread.now y) self.old.waits) }
-        ensures none { self.old.precedence ≡ None → result ≡ false }
-        ensures stays { result ≡ false → self.new.waits ≡ self.old.waits }
-        ensures queue { self.new.queue ≡ self.old.queue }
-        ensures precedence { self.new.precedence ≡ self.old.precedence }
-        ensures count { self.new.count ≡ self.old.count }
-    {
-        let Some(holder) = self.precedence else {
-            return false;
-        };
-        self.join(Awaited::Pages, wait_for(thread, holder))
     }
 
     /// One is about to call an operation. Where others are blocked in operations that may clash with it, it waits for its turn
@@ -253,7 +217,6 @@ impl Desks {
             × CantSleep self.old.count Awaited.Objects (turn_behind thread.now y) self.old.waits) }
         ensures stays { result ≡ false → self.new.waits ≡ self.old.waits }
         ensures queue { self.new.queue ≡ self.old.queue }
-        ensures precedence { self.new.precedence ≡ self.old.precedence }
         ensures count { self.new.count ≡ self.old.count }
     {
         let Some(holder) = self.queue.last_before(op) else {
@@ -276,21 +239,8 @@ impl Desks {
         ensures cant { result ≡ false → CantSleep self.old.count awaited wait self.old.waits }
         ensures stays { result ≡ false → self.new.waits ≡ self.old.waits }
         ensures queue { self.new.queue ≡ self.old.queue }
-        ensures precedence { self.new.precedence ≡ self.old.precedence }
         ensures count { self.new.count ≡ self.old.count }
     {
         self.waits.count() + 1 < self.count && self.waits.join(awaited, wait)
-    }
-}
-
-/// Who has precedence once locks were given back: no longer one that did so.
-fn precedence_after(given: &GivenBack, before: Option<TxId>) -> Option<TxId>
-    ensures { result ≡ precedence_after given.now before }
-{
-    match given {
-        GivenBack::All(tx) | GivenBack::Operation(tx) | GivenBack::Pages(tx) => {
-            before.filter(|first| first != tx)
-        }
-        GivenBack::Nothing => before,
     }
 }

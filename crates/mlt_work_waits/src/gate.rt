@@ -6,6 +6,15 @@ ghost use Rattle.mlt_work_waits.specs.Gates.{is_to_wait};
 use mlt_event::{Answer, Told};
 use mlt_object_kinds::ObjOp;
 
+/// What is told of a client that is no event.
+#[derive(Clone, Copy, PartialEq, Eq)]
+pub enum Notice {
+    /// It is to wait for its turn before it calls an operation.
+    WaitsForTurn,
+    /// Its operation is given up, since its transaction is the youngest of a cycle of waits: the victim of the deadlock.
+    IsVictim,
+}
+
 /// Is told what a client does, with the lock free. The client goes on once it returns.
 pub trait Gate {
     /// The client is to begin a transaction, and has none. Most gates have nothing to do then.
@@ -15,8 +24,8 @@ pub trait Gate {
     #[inline(always)]
     fn call(&self, _client: u32, _op: &ObjOp) {}
 
-    /// The client is to wait for its turn before it calls an operation. Most gates have nothing to do then.
-    fn rest(&self, _client: u32) {}
+    /// The client is told this beside its events. Most gates have nothing to do then.
+    fn notice(&self, _client: u32, _notice: Notice) {}
 
     /// The event of this client was told this.
     fn pause(&self, client: u32, told: &Told);
@@ -26,10 +35,6 @@ pub trait Gate {
     fn is_patient(&self, _client: u32) -> bool {
         true
     }
-
-    /// The client's operation is given up since its transaction is the youngest of a cycle of waits. Most gates have nothing to do
-    /// then.
-    fn deadlock(&self, _client: u32) {}
 }
 
 /// Does nothing.

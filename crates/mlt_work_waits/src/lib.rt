@@ -17,7 +17,7 @@ mod waits;
 pub use blocked_queue::{Blocked, BlockedQueue};
 pub use clashing::may_clash;
 pub use desks::Desks;
-pub use gate::{Gate, NoGate, is_to_wait};
+pub use gate::{Gate, NoGate, Notice, is_to_wait};
 pub use turn::{SleepingThread, Turn, goes_on, is_done};
 pub use wait::{Awaited, Waiting, Waker, Wakers, Whose};
 pub use waits::WaitsFor;

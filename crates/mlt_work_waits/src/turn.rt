@@ -32,14 +32,12 @@ pub(crate) enum GivenBack {
     All(TxId),
 }
 
-/// One that may sleep: its transaction and the timestamp of that, what wakes it, whether it has waited so often for pages that it
-/// takes precedence, and the operation that it is in, or was in last.
+/// One that may sleep: its transaction and the timestamp of that, what wakes it, and the operation that it is in, or was in last.
 #[derive(Clone, Copy)]
 pub struct SleepingThread {
     pub tx: TxId,
     pub timestamp: u64,
     pub waker: Waker,
-    pub takes_precedence: bool,
     pub op: ObjOp,
 }
 
