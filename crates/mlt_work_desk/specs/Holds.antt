@@ -7,8 +7,7 @@ use Rattle.mlt_script_serial.specs.declared.call.DeskAnswer.TheVariants.{Begun, 
 use Rattle.mlt_event.specs.declared.{answer.Answer.Answer, event.Event.Event, told.Told.Told}
 use Rattle.mlt_trace.specs.{Items.TellsOf, declared.item.TraceItem.TraceItem}
 use Rattle.mlt_manager.specs.{Answers.counted, Events.Meets, Managers.IsManager, Managers.ManagerFields, Tolds.AddsItems, Tolds.CalledOps}
-use Rattle.mlt_work_log.specs.{Seats.begun_by, Seats.first_items, declared.seats.LogSnapshot.LogSnapshot}
-use Rattle.mlt_work_desk.specs.{Tries.GivesUp, Tries.SpendsTries, declared.tries.TriesLeft.TriesLeft}
+use Rattle.mlt_work_desk.specs.{Tries.GivesUp, Tries.SpendsTries, Views.DeskView, declared.tries.TriesLeft.TriesLeft}
 use Rattle.mlt_work_waits.specs.Gates.{is_to_wait}
 
 -- An event of some manager was told this, and met the contract of its call. What is always true of a manager is true of it
@@ -68,15 +67,6 @@ abbrev pub IfReply : Event → Told → Type 0 → Type 0
 IfReply (Event.Step tx) (Told.Answered (Answer.Done reply)) X = X
 IfReply event told X = Unit {0}
 
--- what a desk has seen of the history, which transactions it has begun, and its tries
-pub record DeskView : Type 0 where
-  pub history : List TraceItem
-  pub begun : List ℕ
-  pub tries : TriesLeft
-
-abbrev pub desk_view : LogSnapshot → TriesLeft → DeskView
-desk_view snapshot tries = record { history = first_items snapshot; begun = begun_by snapshot; tries = tries }
-
 -- An operation was to wait, and was cancelled, for one of the reasons to give up.
 pub record IsGivenUp {P : Type 0} (bits_of : P → ℕ → ℕ) (tx : ℕ) (tries : TriesLeft) : Type 0 where
   pub told : Told
@@ -113,7 +103,7 @@ abbrev pub WhyRefused : {P : Type 0} → (P → ℕ → ℕ) → ℕ → ObjOp �
 WhyRefused bits_of tx op reason after =
     IsToldTo bits_of (Event.Call tx op) (Told.Refused reason)
     ⊎ IsToldTo bits_of (Event.Step tx) (Told.Answered (Answer.Refused reason))
-    ⊎ ((reason ≡ Refusal.NoSuchTx) × IsOfAnother bits_of tx op after.history)
+    ⊎ ((reason ≡ Refusal.NoSuchTx) × IsOfAnother bits_of tx op after.past.items)
     ⊎ ((reason ≡ Refusal.GaveUp) × IsGivenUp bits_of tx after.tries)
 
 -- what an operation may answer: a reply that a step answered, or one of its refusals
@@ -158,6 +148,6 @@ Begins before asked given after = after ≡ before
 -- spent as they are to be.
 pub record Answers {P : Type 0} (bits_of : P → ℕ → ℕ) (before : DeskView) (asked : DeskCall) (given : DeskAnswer) (after : DeskView) : Type 0 where
   pub may : MayAnswer bits_of asked given after
-  pub sees : SeesAnswer before.history asked given after.history
+  pub sees : SeesAnswer before.past.items asked given after.past.items
   pub begins : Begins before.begun asked given after.begun
-  pub spends : SpendsTries before.tries asked after.tries
+  pub spends : SpendsTries before asked after

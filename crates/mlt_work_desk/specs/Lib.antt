@@ -2,4 +2,5 @@ pub mod Holds
 pub mod Statistics
 pub mod Makings
 pub mod Tries
+pub mod Views
 pub mod Playing

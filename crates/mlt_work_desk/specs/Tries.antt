@@ -1,12 +1,13 @@
 -- How the tries of a desk are spent, and why an operation gives up.
-use Rattle.std.specs.Prelude.{ℕ, ◌≡◌, ◌+◌, ◌-◌, ◌^◌, ◌<◌, ◌⊎◌, min, true, false}
+use Rattle.std.specs.Prelude.{ℕ, ◌≡◌, ◌-◌, ◌⊎◌, List, true, false, count_by}
+use Rattle.mlt_event.specs.declared.{event.Event.Event, told.Told.Told}
 use Rattle.mlt_script_serial.specs.declared.call.DeskCall.{DeskCall}
-use Rattle.mlt_work_waits.specs.{Waits.Waits, Waits.IsYoungest, declared.wait.Waiting.Waiting}
-use Rattle.mlt_work_desk.specs.declared.tries.{Tries.Tries, Tries.TheVariants.PerOperation, Tries.TheVariants.PerScript, TriesLeft.TriesLeft}
+use Rattle.mlt_work_waits.specs.{Gates.is_to_wait, Waits.Waits, Waits.IsYoungest, declared.wait.Waiting.Waiting}
+use Rattle.mlt_work_desk.specs.{Views.DeskView, Views.HasMade, declared.tries.Tries.Tries, declared.tries.Tries.TheVariants.PerOperation, declared.tries.Tries.TheVariants.PerScript, declared.tries.TriesLeft.TriesLeft}
 
 -- so many, of which none are left yet
 abbrev pub tries_of : Tries → TriesLeft
-tries_of given = record { given = given; left = 0; waited = 0; is_patient = true }
+tries_of given = record { given = given; left = 0; is_patient = true }
 
 -- how many are left once a transaction is to begin: all of a script
 abbrev pub left_to_begin : Tries → ℕ → ℕ
@@ -24,25 +25,37 @@ tries_begun tries = record tries { left = left_to_begin tries.given tries.left }
 
 -- once an operation is to be called
 abbrev pub tries_called : TriesLeft → TriesLeft
-tries_called tries = record tries { left = left_to_call tries.given tries.left; waited = 0 }
+tries_called tries = record tries { left = left_to_call tries.given tries.left }
 
 -- once it is to wait
 abbrev pub tries_spent : TriesLeft → TriesLeft
-tries_spent tries = record tries { left = tries.left - 1; waited = min (tries.waited + 1) (2 ^ 64 - 1) }
+tries_spent tries = record tries { left = tries.left - 1 }
 
--- An operation was so often to wait, which is counted up to 2 ^ 64 - 1, and each time spent one of its tries.
-pub record SpendsByWaits (before after : TriesLeft) : Type 0 where
-  pub waits : ℕ
-  pub given : after.given ≡ before.given
-  pub left : after.left ≡ before.left - waits
-  pub waited : before.waited + waits < 2 ^ 64 - 1 → after.waited ≡ before.waited + waits
+-- how many of these events were told to wait, or that they are blocked
+abbrev pub waits_in : List (Event × Told) → ℕ
+waits_in acts = count_by (λ act. is_to_wait act.1) acts
+
+-- Of the events that a desk has made for an operation, each that was told to wait, or that it is blocked, has spent one of its
+-- tries, and no other has.
+pub record SpendsByWaits (before after : DeskView) : Type 0 where
+  pub own : List (Event × Told)
+  pub made : HasMade before after own
+  pub given : after.tries.given ≡ before.tries.given
+  pub left : after.tries.left ≡ before.tries.left - waits_in own
+
+-- A desk has made some events, of which none was told to wait.
+pub record MakesNoWait (before after : DeskView) : Type 0 where
+  pub own : List (Event × Told)
+  pub made : HasMade before after own
+  pub none : waits_in own ≡ 0
 
 -- what a call does to the tries
-abbrev pub SpendsTries : TriesLeft → DeskCall → TriesLeft → Type 0
-SpendsTries before DeskCall.Begin after = after ≡ tries_begun before
-SpendsTries before (DeskCall.Operation tx op) after = SpendsByWaits (tries_called before) after
-SpendsTries before (DeskCall.Commit tx) after = after ≡ before
-SpendsTries before (DeskCall.Abort tx) after = after ≡ before
+abbrev pub SpendsTries : DeskView → DeskCall → DeskView → Type 0
+SpendsTries before DeskCall.Begin after = after.tries ≡ tries_begun before.tries
+SpendsTries before (DeskCall.Operation tx op) after =
+    SpendsByWaits (record before { tries = tries_called before.tries }) after
+SpendsTries before (DeskCall.Commit tx) after = after.tries ≡ before.tries
+SpendsTries before (DeskCall.Abort tx) after = after.tries ≡ before.tries
 
 -- The transaction is the youngest of a cycle of waits, which its own wait would close.
 pub record IsYoungestOfCycle (tx : ℕ) : Type 0 where

@@ -1,13 +1,14 @@
 //! The calls of a desk over a shared manager.
 
-ghost use Rattle.std.specs.Prelude.{◌≡◌, ◌+◌, ◌-◌, ◌^◌, min, true, false, IfSome};
+ghost use Rattle.std.specs.Prelude.{◌≡◌, ◌∷◌, ◌-◌, ◌^◌, [], min, true, false, IfSome};
 ghost use Rattle.mlt_script_serial.specs.Calls.{answer_by};
 ghost use Rattle.mlt_work_log.specs.Prefixes.{StartsWith};
 ghost use Rattle.mlt_work_log.specs.Seats.{IsOf, begun_by, first_items};
 ghost use Rattle.mlt_script_serial.specs.declared.call.DeskCall.TheVariants as call;
 ghost use Rattle.mlt_event.specs.declared.event.Event.TheVariants as event;
-ghost use Rattle.mlt_work_desk.specs.Holds.{EndsWithOp, HasBegun, IfReply, IsToldTo, MayAnswerOperation, SeesAnswer, SeesEvent, desk_view};
-ghost use Rattle.mlt_work_desk.specs.Tries.{GivesUp, IsYoungestOfCycle, SpendsByWaits, tries_spent};
+ghost use Rattle.mlt_work_desk.specs.Holds.{EndsWithOp, HasBegun, IfReply, IsToldTo, MayAnswerOperation, SeesAnswer, SeesEvent};
+ghost use Rattle.mlt_work_desk.specs.Tries.{GivesUp, IsYoungestOfCycle, MakesNoWait, SpendsByWaits, tries_of, tries_spent};
+ghost use Rattle.mlt_work_desk.specs.Views.{HasMade, desk_view};
 
 use crate::called::Called;
 use crate::lock_desk::LockDesk;
@@ -34,6 +35,7 @@ impl<'a, P: Pseudo, L: MadeWith<P>, R: Wait, G: Gate> LockDesk<'a, P, L, R, G> {
     ) -> LockDesk<'a, P, L, R, G>
         requires part { share.parts ≡ 1 }
         requires amount { share.amount ≡ 0 }
+        ensures tries { result.tries ≡ tries_of tries }
     {
         let snapshot = shared.snapshot(rt);
         LockDesk::after(rt, shared, gate, share, snapshot, tries)
@@ -52,6 +54,8 @@ impl<'a, P: Pseudo, L: MadeWith<P>, R: Wait, G: Gate> LockDesk<'a, P, L, R, G> {
         requires amount { share.amount ≡ 0 }
         requires of_log { IsOf L.log_id snapshot }
         ensures snapshot { result.snapshot ≡ snapshot }
+        ensures tries { result.tries ≡ tries_of tries }
+        ensures events { result.share.amount ≡ 0 }
     {
         let waker = shared.lock(rt).desks.enter();
         LockDesk {
@@ -79,7 +83,9 @@ impl<'a, P: Pseudo, L: MadeWith<P>, R: Wait, G: Gate> LockDesk<'a, P, L, R, G> {
 
     /// From now on it is at work for this client.
     pub fn serve(&mut self, client: u32)
-        ensures { self.new.snapshot ≡ self.old.snapshot }
+        ensures snapshot { self.new.snapshot ≡ self.old.snapshot }
+        ensures tries { self.new.tries ≡ self.old.tries }
+        ensures events { self.new.share.amount ≡ self.old.share.amount }
     {
         self.client = client;
         self.keeps_timestamp = false;
@@ -127,7 +133,9 @@ impl<'a, P: Pseudo, L: MadeWith<P>, R: Wait, G: Gate> LockDesk<'a, P, L, R, G> {
         ensures another { self.new.is_reply ≡ false → IfReply event result.0
             (EndsWithOp (first_items self.new.snapshot) self.old.thread.op → ⊥) }
         ensures youngest { result.1 ≡ Turn.Deadlock → IsYoungestOfCycle self.old.thread.tx }
-        ensures one { self.new.share.amount ≡ self.old.share.amount + 1 }
+        ensures made { HasMade (desk_view self.old.snapshot self.old.tries self.old.share.amount)
+            (desk_view self.new.snapshot self.new.tries self.new.share.amount)
+            ((event, result.0) ∷ []) }
         ensures thread { self.new.thread ≡ self.old.thread }
         ensures tries { self.new.tries ≡ self.old.tries }
     {
@@ -174,6 +182,7 @@ impl<'a, P: Pseudo, L: MadeWith<P>, R: Wait, G: Gate> LockDesk<'a, P, L, R, G> {
         ensures tx { self.new.thread.tx ≡ tx }
         ensures snapshot { self.new.snapshot ≡ self.old.snapshot }
         ensures tries { self.new.tries ≡ self.old.tries }
+        ensures events { self.new.share.amount ≡ self.old.share.amount }
     {
         self.thread.tx = tx;
     }
@@ -185,6 +194,7 @@ impl<'a, P: Pseudo, L: MadeWith<P>, R: Wait, G: Gate> LockDesk<'a, P, L, R, G> {
         ensures snapshot { self.new.snapshot ≡ self.old.snapshot }
         ensures thread { self.new.thread ≡ self.old.thread }
         ensures tries { self.new.tries ≡ self.old.tries }
+        ensures events { self.new.share.amount ≡ self.old.share.amount }
     {
         let op = self.thread.op;
         let is_new = self.called.add(&op);
@@ -201,6 +211,7 @@ impl<'a, P: Pseudo, L: MadeWith<P>, R: Wait, G: Gate> LockDesk<'a, P, L, R, G> {
         ensures snapshot { self.new.snapshot ≡ self.old.snapshot }
         ensures thread { self.new.thread ≡ self.old.thread }
         ensures tries { self.new.tries ≡ self.old.tries }
+        ensures events { self.new.share.amount ≡ self.old.share.amount }
     {
         let mut state = self.shared.lock(self.rt);
         let op = self.thread.op;
@@ -219,8 +230,8 @@ impl<'a, P: Pseudo, L: MadeWith<P>, R: Wait, G: Gate> LockDesk<'a, P, L, R, G> {
         ensures spent { self.new.tries ≡ tries_spent self.old.tries }
         ensures reason { result ≡ true → GivesUp self.old.thread.tx self.new.tries }
         ensures snapshot { self.new.snapshot ≡ self.old.snapshot }
-        ensures tx { self.new.thread.tx ≡ self.old.thread.tx }
-        ensures op { self.new.thread.op ≡ self.old.thread.op }
+        ensures thread { self.new.thread ≡ self.old.thread }
+        ensures events { self.new.share.amount ≡ self.old.share.amount }
     {
         self.tries.spend();
         self.tries.left == 0 || turn == Turn::Deadlock || !self.tries.is_patient
@@ -233,6 +244,9 @@ impl<'a, P: Pseudo, L: MadeWith<P>, R: Wait, G: Gate> LockDesk<'a, P, L, R, G> {
             × IsToldTo P.bits_of (event.Cancel self.old.thread.tx) cancelled }
         ensures more { StartsWith (first_items self.new.snapshot) (first_items self.old.snapshot) }
         ensures begun { begun_by self.new.snapshot ≡ begun_by self.old.snapshot }
+        ensures made { MakesNoWait
+            (desk_view self.old.snapshot self.old.tries self.old.share.amount)
+            (desk_view self.new.snapshot self.new.tries self.new.share.amount) }
         ensures thread { self.new.thread ≡ self.old.thread }
         ensures tries { self.new.tries ≡ self.old.tries }
     {
@@ -254,8 +268,10 @@ impl<'a, P: Pseudo, L: MadeWith<P>, R: Wait, G: Gate> LockDesk<'a, P, L, R, G> {
             × IsToldTo P.bits_of (event.Cancel self.old.thread.tx) cancelled }
         ensures reason { result ≡ true → GivesUp self.old.thread.tx self.new.tries }
         ensures spent { self.new.tries ≡ tries_spent self.old.tries }
-        ensures tx { self.new.thread.tx ≡ self.old.thread.tx }
-        ensures op { self.new.thread.op ≡ self.old.thread.op }
+        ensures made { MakesNoWait
+            (desk_view self.old.snapshot self.old.tries self.old.share.amount)
+            (desk_view self.new.snapshot self.new.tries self.new.share.amount) }
+        ensures thread { self.new.thread ≡ self.old.thread }
         ensures more { StartsWith (first_items self.new.snapshot) (first_items self.old.snapshot) }
         ensures begun { begun_by self.new.snapshot ≡ begun_by self.old.snapshot }
     {
@@ -273,15 +289,16 @@ impl<'a, P: Pseudo, L: MadeWith<P>, R: Wait, G: Gate> LockDesk<'a, P, L, R, G> {
     fn step(&mut self) -> Option<Result<ObjReply, Refusal>>
         ensures told { IfSome result (λ reply. MayAnswerOperation P.bits_of self.old.thread.tx
             self.old.thread.op (answer_by DeskAnswer.Replied reply)
-            (desk_view self.new.snapshot self.new.tries)) }
+            (desk_view self.new.snapshot self.new.tries self.new.share.amount)) }
         ensures sees { IfSome result (λ reply. SeesAnswer (first_items self.old.snapshot)
             (call.Operation self.old.thread.tx self.old.thread.op)
             (answer_by DeskAnswer.Replied reply) (first_items self.new.snapshot)) }
         ensures more { StartsWith (first_items self.new.snapshot) (first_items self.old.snapshot) }
         ensures begun { begun_by self.new.snapshot ≡ begun_by self.old.snapshot }
-        ensures spends { SpendsByWaits self.old.tries self.new.tries }
-        ensures tx { self.new.thread.tx ≡ self.old.thread.tx }
-        ensures op { self.new.thread.op ≡ self.old.thread.op }
+        ensures spends { SpendsByWaits
+            (desk_view self.old.snapshot self.old.tries self.old.share.amount)
+            (desk_view self.new.snapshot self.new.tries self.new.share.amount) }
+        ensures thread { self.new.thread ≡ self.old.thread }
     {
         self.tries.is_patient = self.gate.is_patient(self.client);
         // With its last try it does not wait, nor where the gate is out of patience.
@@ -308,12 +325,15 @@ impl<'a, P: Pseudo, L: MadeWith<P>, R: Wait, G: Gate> LockDesk<'a, P, L, R, G> {
     #[tactic(auto, using(crate::proofs::Seeing::more_than, crate::proofs::Seeing::no_more, crate::proofs::Seeing::sees_later, crate::proofs::Trying::spends_nothing, crate::proofs::Trying::spends_more))]
     fn steps(&mut self) -> Result<ObjReply, Refusal>
         ensures told { MayAnswerOperation P.bits_of self.old.thread.tx self.old.thread.op
-            (answer_by DeskAnswer.Replied result) (desk_view self.new.snapshot self.new.tries) }
+            (answer_by DeskAnswer.Replied result)
+            (desk_view self.new.snapshot self.new.tries self.new.share.amount) }
         ensures sees { SeesAnswer (first_items self.old.snapshot)
             (call.Operation self.old.thread.tx self.old.thread.op)
             (answer_by DeskAnswer.Replied result) (first_items self.new.snapshot) }
         ensures begun { begun_by self.new.snapshot ≡ begun_by self.old.snapshot }
-        ensures spends { SpendsByWaits self.old.tries self.new.tries }
+        ensures spends { SpendsByWaits
+            (desk_view self.old.snapshot self.old.tries self.old.share.amount)
+            (desk_view self.new.snapshot self.new.tries self.new.share.amount) }
     {
         let rt = self.rt;
         for _ in rt.forever() {
@@ -358,10 +378,12 @@ impl<'a, P: Pseudo, L: MadeWith<P>, R: Wait, G: Gate> LockDesk<'a, P, L, R, G> {
 }
 
 impl<'a, P: Pseudo, L: MadeWith<P>, R: Wait, G: Gate> Answering for LockDesk<'a, P, L, R, G> {
-    ghost use Rattle.mlt_work_desk.specs.Holds.{Answers, desk_view};
+    ghost use Rattle.mlt_work_desk.specs.Holds.{Answers};
+    ghost use Rattle.mlt_work_desk.specs.Views.{desk_view};
 
-    ghost moves = { λ old call answer new. Answers P.bits_of (desk_view old.snapshot old.tries) call
-        answer (desk_view new.snapshot new.tries) };
+    ghost moves = { λ old call answer new. Answers P.bits_of
+        (desk_view old.snapshot old.tries old.share.amount) call
+        answer (desk_view new.snapshot new.tries new.share.amount) };
 
     fn operation(&mut self, tx: TxId, op: ObjOp) -> Result<ObjReply, Refusal> {
         self.tries.call();

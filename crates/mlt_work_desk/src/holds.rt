@@ -85,6 +85,7 @@ impl<P: Pseudo, L: MadeWith<P>> LockedState<P, L> {
             (counted self.old.manager) self.new.manager }
         ensures acts { (past_of self.new.writer).acts
             ≡ (past_of self.old.writer).acts ++ (event, result.0) ∷ [] }
+        ensures first { HasBegunWith (past_of self.old.writer) (seen_by snapshot.old) }
         ensures keeps { IfReply event result.0 (self.new.manager.shared.history.items
             ≢ self.new.manager.shared.history.handed) }
         ensures amount { share.new.amount ≡ share.old.amount + 1 }

@@ -19,8 +19,6 @@ pub(crate) struct TriesLeft {
     pub given: Tries,
     /// How many are left.
     pub left: u64,
-    /// How often the operation was to wait, or was blocked.
-    pub waited: u64,
     /// What the gate answered last: whether the operation may wait.
     pub is_patient: bool,
 }
@@ -33,7 +31,6 @@ impl TriesLeft {
         TriesLeft {
             given,
             left: 0,
-            waited: 0,
             is_patient: true,
         }
     }
@@ -55,7 +52,6 @@ impl TriesLeft {
         if let Tries::PerOperation(count) = self.given {
             self.left = count;
         }
-        self.waited = 0;
     }
 
     /// The operation is to wait, or is blocked.
@@ -63,6 +59,5 @@ impl TriesLeft {
         ensures { self.new ≡ tries_spent self.old }
     {
         self.left = self.left.saturating_sub(1);
-        self.waited = self.waited.saturating_add(1);
     }
 }

@@ -1,7 +1,7 @@
 use Rattle.std.proofs.Common.{rules, ◌≡◌, ◌≢◌, ◌∙◌, List, [], ◌∷◌, length, false, true, ap, refl, arith}
 use Rattle.mlt_work_desk.proofs.Names.{first_items, EndsWithOp, is_done}
 use Rattle.mlt_work_waits.specs.Turns.{goes_on}
-use Rattle.mlt_work_desk.proofs.{Cycles.youngest_of_cycle, Going.wakes_none, Replying.reply_not_done, Replying.reply_then, lock_desk.LockDesk.hold.Goals.then-is_done, lock_desk.LockDesk.hold.Goals.else-is_done, lock_desk.LockDesk.hold.Goals.then-not-is_empty, lock_desk.LockDesk.hold.Goals.else-not-is_empty}
+use Rattle.mlt_work_desk.proofs.{Cycles.youngest_of_cycle, Going.wakes_none, Replying.reply_not_done, Replying.reply_then, Trying.has_made, lock_desk.LockDesk.hold.Goals.then-is_done, lock_desk.LockDesk.hold.Goals.else-is_done, lock_desk.LockDesk.hold.Goals.then-not-is_empty, lock_desk.LockDesk.hold.Goals.else-not-is_empty}
 use Rattle.mlt_work_log.specs.declared.seats.Past.{Past}
 use Rattle.mlt_work_desk.proofs.lock_desk.LockDesk.hold.Goals as goal
 
@@ -34,8 +34,15 @@ returns-clause-told g c =
 pub returns-clause-sees : goal.returns-clause-sees
 returns-clause-sees g c = c.act-told.ensures.sees
 
-pub returns-clause-one : goal.returns-clause-one
-returns-clause-one g c = c.act-told.ensures.amount
+pub returns-clause-made : goal.returns-clause-made
+returns-clause-made g c =
+    let act = c.act-told.ensures in
+    has_made _ _ _ _ _ act.first.acts (ap (λ (past : Past). past.acts) act.seen ∙ act.acts) act.amount
+
+pub returns-then-goes_on-clause-made : goal.returns-then-goes_on-clause-made
+returns-then-goes_on-clause-made g c =
+    let act = c.act-told.ensures in
+    has_made _ _ _ _ _ act.first.acts (ap (λ (past : Past). past.acts) act.seen ∙ act.acts) act.amount
 
 pub invariant_of-self-2-clause-part : goal.invariant_of-self-2-clause-part
 invariant_of-self-2-clause-part g c = c.act-told.ensures.parts ∙ c.args.self.now.part

@@ -1,4 +1,4 @@
-use Rattle.std.proofs.Common.{rules, ◌≡◌, ◌∙◌, ap, inl, inr, false, refl, subst, true}
+use Rattle.std.proofs.Common.{rules, ◌≡◌, inl, inr, false, refl, subst, true}
 use Rattle.mlt_types.specs.declared.refusal.Refusal.TheVariants.{GaveUp}
 use Rattle.mlt_work_desk.proofs.Names.{Answer, Event, Told, DeskCall, first_items, EndsWithOp, IfReply, IsToldTo, SeesEvent, SleepingThread}
 use Rattle.mlt_work_desk.{specs.Tries.GivesUp, proofs.Seeing.more_than, proofs.Seeing.sees_more, proofs.Seeing.sees_refused, proofs.Seeing.sees_replied, proofs.Trying.spends_none, proofs.Trying.spends_one}
@@ -77,91 +77,59 @@ pub returns-in-Answered-Going-clause-more : goal.returns-in-Answered-Going-claus
 returns-in-Answered-Going-clause-more g c = sees_more _ _ _ _ c.hold-told.ensures.sees
 
 pub returns-in-Answered-Going-clause-spends : goal.returns-in-Answered-Going-clause-spends
-returns-in-Answered-Going-clause-spends g c = spends_none c.args.self.now.tries c.hold-told.new.self.tries c.is_patient-self.result c.hold-told.ensures.tries
-
-pub returns-in-Answered-Going-clause-tx : goal.returns-in-Answered-Going-clause-tx
-returns-in-Answered-Going-clause-tx g c = ap (λ (t : SleepingThread). t.tx) c.hold-told.ensures.thread
-
-pub returns-in-Answered-Going-clause-op : goal.returns-in-Answered-Going-clause-op
-returns-in-Answered-Going-clause-op g c = ap (λ (t : SleepingThread). t.op) c.hold-told.ensures.thread
+returns-in-Answered-Going-clause-spends g c =
+    let not : is_to_wait c.hold-told.result.0 ≡ false = search rules in
+    spends_none _ _ _ _ _ c.is_patient-self.result refl refl not c.hold-told.ensures.made c.hold-told.ensures.tries
 
 pub returns-in-Answered-Done-clause-more : goal.returns-in-Answered-Done-clause-more
 returns-in-Answered-Done-clause-more g c = sees_more _ _ _ _ c.hold-told.ensures.sees
 
 pub returns-in-Answered-Done-clause-spends : goal.returns-in-Answered-Done-clause-spends
-returns-in-Answered-Done-clause-spends g c = spends_none c.args.self.now.tries c.hold-told.new.self.tries c.is_patient-self.result c.hold-told.ensures.tries
-
-pub returns-in-Answered-Done-clause-tx : goal.returns-in-Answered-Done-clause-tx
-returns-in-Answered-Done-clause-tx g c = ap (λ (t : SleepingThread). t.tx) c.hold-told.ensures.thread
-
-pub returns-in-Answered-Done-clause-op : goal.returns-in-Answered-Done-clause-op
-returns-in-Answered-Done-clause-op g c = ap (λ (t : SleepingThread). t.op) c.hold-told.ensures.thread
+returns-in-Answered-Done-clause-spends g c =
+    let not : is_to_wait c.hold-told.result.0 ≡ false = search rules in
+    spends_none _ _ _ _ _ c.is_patient-self.result refl refl not c.hold-told.ensures.made c.hold-told.ensures.tries
 
 pub returns-in-Answered-Refused-clause-more : goal.returns-in-Answered-Refused-clause-more
 returns-in-Answered-Refused-clause-more g c = sees_more _ _ _ _ c.hold-told.ensures.sees
 
 pub returns-in-Answered-Refused-clause-spends : goal.returns-in-Answered-Refused-clause-spends
-returns-in-Answered-Refused-clause-spends g c = spends_none c.args.self.now.tries c.hold-told.new.self.tries c.is_patient-self.result c.hold-told.ensures.tries
-
-pub returns-in-Answered-Refused-clause-tx : goal.returns-in-Answered-Refused-clause-tx
-returns-in-Answered-Refused-clause-tx g c = ap (λ (t : SleepingThread). t.tx) c.hold-told.ensures.thread
-
-pub returns-in-Answered-Refused-clause-op : goal.returns-in-Answered-Refused-clause-op
-returns-in-Answered-Refused-clause-op g c = ap (λ (t : SleepingThread). t.op) c.hold-told.ensures.thread
+returns-in-Answered-Refused-clause-spends g c =
+    let not : is_to_wait c.hold-told.result.0 ≡ false = search rules in
+    spends_none _ _ _ _ _ c.is_patient-self.result refl refl not c.hold-told.ensures.made c.hold-told.ensures.tries
 
 pub returns-in-Answered-Done-2-clause-more : goal.returns-in-Answered-Done-2-clause-more
 returns-in-Answered-Done-2-clause-more g c = sees_more _ _ _ _ c.hold-told.ensures.sees
 
 pub returns-in-Answered-Done-2-clause-spends : goal.returns-in-Answered-Done-2-clause-spends
-returns-in-Answered-Done-2-clause-spends g c = spends_none c.args.self.now.tries c.hold-told.new.self.tries c.is_patient-self.result c.hold-told.ensures.tries
-
-pub returns-in-Answered-Done-2-clause-tx : goal.returns-in-Answered-Done-2-clause-tx
-returns-in-Answered-Done-2-clause-tx g c = ap (λ (t : SleepingThread). t.tx) c.hold-told.ensures.thread
-
-pub returns-in-Answered-Done-2-clause-op : goal.returns-in-Answered-Done-2-clause-op
-returns-in-Answered-Done-2-clause-op g c = ap (λ (t : SleepingThread). t.op) c.hold-told.ensures.thread
+returns-in-Answered-Done-2-clause-spends g c =
+    let not : is_to_wait c.hold-told.result.0 ≡ false = search rules in
+    spends_none _ _ _ _ _ c.is_patient-self.result refl refl not c.hold-told.ensures.made c.hold-told.ensures.tries
 
 pub returns-in-Answered-Done-2-2-clause-more : goal.returns-in-Answered-Done-2-2-clause-more
 returns-in-Answered-Done-2-2-clause-more g c = sees_more _ _ _ _ c.hold-told.ensures.sees
 
 pub returns-in-Answered-Done-2-2-clause-spends : goal.returns-in-Answered-Done-2-2-clause-spends
-returns-in-Answered-Done-2-2-clause-spends g c = spends_none c.args.self.now.tries c.hold-told.new.self.tries c.is_patient-self.result c.hold-told.ensures.tries
-
-pub returns-in-Answered-Done-2-2-clause-tx : goal.returns-in-Answered-Done-2-2-clause-tx
-returns-in-Answered-Done-2-2-clause-tx g c = ap (λ (t : SleepingThread). t.tx) c.hold-told.ensures.thread
-
-pub returns-in-Answered-Done-2-2-clause-op : goal.returns-in-Answered-Done-2-2-clause-op
-returns-in-Answered-Done-2-2-clause-op g c = ap (λ (t : SleepingThread). t.op) c.hold-told.ensures.thread
+returns-in-Answered-Done-2-2-clause-spends g c =
+    let not : is_to_wait c.hold-told.result.0 ≡ false = search rules in
+    spends_none _ _ _ _ _ c.is_patient-self.result refl refl not c.hold-told.ensures.made c.hold-told.ensures.tries
 
 pub returns-in-Answered-Done-2-3-clause-more : goal.returns-in-Answered-Done-2-3-clause-more
 returns-in-Answered-Done-2-3-clause-more g c = sees_more _ _ _ _ c.hold-told.ensures.sees
 
 pub returns-in-Answered-Done-2-3-clause-spends : goal.returns-in-Answered-Done-2-3-clause-spends
-returns-in-Answered-Done-2-3-clause-spends g c = spends_none c.args.self.now.tries c.hold-told.new.self.tries c.is_patient-self.result c.hold-told.ensures.tries
-
-pub returns-in-Answered-Done-2-3-clause-tx : goal.returns-in-Answered-Done-2-3-clause-tx
-returns-in-Answered-Done-2-3-clause-tx g c = ap (λ (t : SleepingThread). t.tx) c.hold-told.ensures.thread
-
-pub returns-in-Answered-Done-2-3-clause-op : goal.returns-in-Answered-Done-2-3-clause-op
-returns-in-Answered-Done-2-3-clause-op g c = ap (λ (t : SleepingThread). t.op) c.hold-told.ensures.thread
+returns-in-Answered-Done-2-3-clause-spends g c =
+    let not : is_to_wait c.hold-told.result.0 ≡ false = search rules in
+    spends_none _ _ _ _ _ c.is_patient-self.result refl refl not c.hold-told.ensures.made c.hold-told.ensures.tries
 
 pub returns-then-gives_up-clause-spends : goal.returns-then-gives_up-clause-spends
-returns-then-gives_up-clause-spends g c = spends_one c.args.self.now.tries c.hold-told.new.self.tries c.gives_up.new.self.tries c.is_patient-self.result c.hold-told.ensures.tries c.gives_up.ensures.spent
-
-pub returns-then-gives_up-clause-tx : goal.returns-then-gives_up-clause-tx
-returns-then-gives_up-clause-tx g c = c.gives_up.ensures.tx ∙ ap (λ (t : SleepingThread). t.tx) c.hold-told.ensures.thread
-
-pub returns-then-gives_up-clause-op : goal.returns-then-gives_up-clause-op
-returns-then-gives_up-clause-op g c = c.gives_up.ensures.op ∙ ap (λ (t : SleepingThread). t.op) c.hold-told.ensures.thread
+returns-then-gives_up-clause-spends g c =
+    let waits : is_to_wait c.hold-told.result.0 ≡ true = search rules in
+    spends_one _ _ _ _ _ _ c.is_patient-self.result refl refl waits c.hold-told.ensures.made c.hold-told.ensures.tries c.gives_up.ensures.made c.gives_up.ensures.spent
 
 pub returns-else-gives_up-clause-more : goal.returns-else-gives_up-clause-more
 returns-else-gives_up-clause-more g c = more_than _ (first_items c.hold-told.new.self.snapshot) _ c.gives_up.ensures.more (sees_more _ _ _ _ c.hold-told.ensures.sees)
 
 pub returns-else-gives_up-clause-spends : goal.returns-else-gives_up-clause-spends
-returns-else-gives_up-clause-spends g c = spends_one c.args.self.now.tries c.hold-told.new.self.tries c.gives_up.new.self.tries c.is_patient-self.result c.hold-told.ensures.tries c.gives_up.ensures.spent
-
-pub returns-else-gives_up-clause-tx : goal.returns-else-gives_up-clause-tx
-returns-else-gives_up-clause-tx g c = c.gives_up.ensures.tx ∙ ap (λ (t : SleepingThread). t.tx) c.hold-told.ensures.thread
-
-pub returns-else-gives_up-clause-op : goal.returns-else-gives_up-clause-op
-returns-else-gives_up-clause-op g c = c.gives_up.ensures.op ∙ ap (λ (t : SleepingThread). t.op) c.hold-told.ensures.thread
+returns-else-gives_up-clause-spends g c =
+    let waits : is_to_wait c.hold-told.result.0 ≡ true = search rules in
+    spends_one _ _ _ _ _ _ c.is_patient-self.result refl refl waits c.hold-told.ensures.made c.hold-told.ensures.tries c.gives_up.ensures.made c.gives_up.ensures.spent

@@ -11,11 +11,10 @@ loop-preserved g c =
     let had = c.loop.invariant in
     let step = c.step.ensures in (
       more_than (first_items first.snapshot) (first_items before.snapshot) (first_items after.snapshot) step.more had.0,
-      step.tx ∙ had.1,
-      step.op ∙ had.2,
-      spends_more first.tries before.tries after.tries had.3 step.spends,
-      step.begun ∙ had.4,
+      step.thread ∙ had.1,
+      spends_more _ _ _ had.2 step.spends,
+      step.begun ∙ had.3,
     )
 
 pub returns-in-Some-step-clause-begun : goal.returns-in-Some-step-clause-begun
-returns-in-Some-step-clause-begun g c = c.in-Some-step.ensures.begun ∙ c.loop.invariant.4
+returns-in-Some-step-clause-begun g c = c.in-Some-step.ensures.begun ∙ c.loop.invariant.3
