@@ -1,10 +1,10 @@
 -- Runs at their places.
 use Rattle.std.proofs.Common.{◌≡◌, ◌≢◌, ◌⊎◌, ℕ, zero, suc, ◌+◌, ◌-◌, ◌<◌, ◌≤◌, List, [], ◌∷◌, ◌++◌, length, map, set, append_assoc, cond, Bool, refl, sym, ap, ◌∙◌, subst, inl, inr, ⊎_elim, arith, get_or, Option, Some, None, IfSome, IsSome, lt-ltb, append-nil, length-set, get_or-set_same, get_or-set_other, All, Vec, Global}
 use Rattle.std.proofs.lemmas.{List.length-map, List.map-append, List.Elements.All-pop, Bool.Decides.eqb_tells, Bool.Decides.nat_tests}
-use Rattle.mlt_work_clients.{specs.declared.seats.SeatView.SeatView, specs.Claims.view, specs.Claims.times, specs.Claims.after_draw, proofs.Moves.times-append, specs.declared.forms.ClientRun.ClientRun}
+use Rattle.mlt_work_clients.{specs.declared.seats.SeatView.SeatView, specs.Claims.view, specs.Claims.times, specs.Claims.after_draw, proofs.Moves.times-append, specs.ClientOutcomes.OutcomeRelation, specs.declared.forms.ClientRun.ClientRun}
 use Rattle.mlt_script_serial.specs.declared.outcome.Outcome.{Outcome}
 use Rattle.mlt_script.specs.{declared.script.Script.Script, Scripts.ScriptForm}
-use Rattle.mlt_work_clients.specs.Places.{AreAllOutcomes, AreClientOutcomes, AreInPlace, HasRunAt, HaveRuns, IsClientRun, KeepsRuns, place_of, scripts_of_clients}
+use Rattle.mlt_work_clients.specs.Places.{AreAllOutcomes, AreInPlace, HasRunAt, HaveRuns, IsClientRun, KeepsRuns, place_of, scripts_of_clients}
 
 -- a draw of a client
 pub draws_client : (v w : SeatView) (clients n : ℕ) (drawn : List ℕ) → v ≡ view 1 1 clients drawn → w ≡ after_draw v n → n < clients → w ≡ view 1 1 clients (drawn ++ n ∷ [])
@@ -17,10 +17,11 @@ get_any (x ∷ xs) zero d e h = refl
 get_any (x ∷ xs) (suc i) d e h = get_any xs i d e (omega arith)
 
 -- a run is put at its place
-pub in_place_set : (lists : List (List ScriptForm)) (slots : List (Option ClientRun)) (r : ClientRun) → IsClientRun lists r → r.place < length slots → AreInPlace lists slots → AreInPlace lists (set slots r.place (Some r))
-in_place_set lists slots r run within h i below =
+pub in_place_set : (are_outcomes : OutcomeRelation) (lists : List (List ScriptForm)) (slots : List (Option ClientRun)) (r : ClientRun) → IsClientRun are_outcomes lists r → r.place < length slots
+    → AreInPlace are_outcomes lists slots → AreInPlace are_outcomes lists (set slots r.place (Some r))
+in_place_set are_outcomes lists slots r run within h i below =
     let here : i < length slots = omega (arith, length-set slots r.place (Some r)) in
-    let P : Option ClientRun → Type 0 = λ s. IfSome s (λ r. (r.place ≡ i) × IsClientRun lists r) in
+    let P : Option ClientRun → Type 0 = λ s. IfSome s (λ r. (r.place ≡ i) × IsClientRun are_outcomes lists r) in
     ⊎_elim
     (λ t. subst P (sym (ap (λ (k : ℕ). get_or (set slots r.place (Some r)) k None) t.1 ∙ get_or-set_same slots r.place (Some r) None within)) (sym t.1, run))
     (λ t. subst P (sym (get_or-set_other slots r.place i (Some r) None t.1)) (h i here))
@@ -53,23 +54,23 @@ filled_step slots r before rest i e within (inr h) =
     not_one i n k ne h = grind (arith, nat_tests)
 
 -- Runs are being put at their places. These numbers are the places of all of them: each has its run, or that is still to be put.
-pub record ArePut (clients : List (Vec Script Global)) (before : List (Option ClientRun)) (places : List ℕ) (slots : List (Option ClientRun)) (rest : List ClientRun) : Type 0 where
+pub record ArePut (are_outcomes : OutcomeRelation) (clients : List (Vec Script Global)) (before : List (Option ClientRun)) (places : List ℕ) (slots : List (Option ClientRun)) (rest : List ClientRun) : Type 0 where
   pub len : length slots ≡ length clients
-  pub placed : AreInPlace (scripts_of_clients clients) slots
-  pub runs : All (IsClientRun (scripts_of_clients clients)) rest
+  pub placed : AreInPlace are_outcomes (scripts_of_clients clients) slots
+  pub runs : All (IsClientRun are_outcomes (scripts_of_clients clients)) rest
   pub kept : KeepsRuns before slots
   pub filled : (place : ℕ) → place < length clients → 0 < times place places → HasRunAt slots place ⊎ (0 < times place (map place_of rest))
 
 -- the last of them is put
-pub last_put : (clients : List (Vec Script Global)) (before : List (Option ClientRun)) (places : List ℕ) (slots : List (Option ClientRun)) (all rest : List ClientRun) (r : ClientRun)
-    → ArePut clients before places slots all → all ≡ rest ++ r ∷ [] → ArePut clients before places (set slots r.place (Some r)) rest
-last_put clients before places slots all rest r h e =
+pub last_put : (are_outcomes : OutcomeRelation) (clients : List (Vec Script Global)) (before : List (Option ClientRun)) (places : List ℕ) (slots : List (Option ClientRun)) (all rest : List ClientRun) (r : ClientRun)
+    → ArePut are_outcomes clients before places slots all → all ≡ rest ++ r ∷ [] → ArePut are_outcomes clients before places (set slots r.place (Some r)) rest
+last_put are_outcomes clients before places slots all rest r h e =
     let lists : List (List ScriptForm) = scripts_of_clients clients in
-    let popped = All-pop (IsClientRun lists) all rest (Some r) e h.runs in
+    let popped = All-pop (IsClientRun are_outcomes lists) all rest (Some r) e h.runs in
     let within : r.place < length slots = omega (arith, popped.1.0, length-map clients (λ (client : Vec Script Global). client.items), h.len) in
     record {
       len = length-set slots r.place (Some r) ∙ h.len;
-      placed = in_place_set lists slots r popped.1 within h.placed;
+      placed = in_place_set are_outcomes lists slots r popped.1 within h.placed;
       runs = popped.0;
       kept = λ i below had. still_some slots r i within (h.kept i below had);
       filled = λ i below drawn. filled_step slots r all rest i e within (h.filled i below drawn);
@@ -101,6 +102,7 @@ past_join n first drawn places e =
     omega arith
 
 -- one more client
-pub all_push : (ls : List (List ScriptForm)) (os : List Outcome) (c : List ScriptForm) (front : List Outcome) → AreAllOutcomes ls os → AreClientOutcomes c front → AreAllOutcomes (ls ++ c ∷ []) (os ++ front)
-all_push [] os c front h o = (front, [], (ap (λ (l : List Outcome). l ++ front) h ∙ sym (append-nil front)), o, refl)
-all_push (l ∷ ls) os c front h o = (h.0, h.1 ++ front, (ap (λ (z : List Outcome). z ++ front) h.2 ∙ append_assoc h.0 h.1 front), h.3, all_push ls h.1 c front h.4 o)
+pub all_push : (are_outcomes : OutcomeRelation) (ls : List (List ScriptForm)) (os : List Outcome) (c : List ScriptForm) (front : List Outcome) → AreAllOutcomes are_outcomes ls os → are_outcomes c front
+    → AreAllOutcomes are_outcomes (ls ++ c ∷ []) (os ++ front)
+all_push are_outcomes [] os c front h o = (front, [], (ap (λ (l : List Outcome). l ++ front) h ∙ sym (append-nil front)), o, refl)
+all_push are_outcomes (l ∷ ls) os c front h o = (h.0, h.1 ++ front, (ap (λ (z : List Outcome). z ++ front) h.2 ∙ append_assoc h.0 h.1 front), h.3, all_push are_outcomes ls h.1 c front h.4 o)

@@ -1,4 +1,5 @@
 pub mod Claims
 pub mod Seats
+pub mod ClientOutcomes
 pub mod Places
 pub mod Workers

@@ -4,7 +4,7 @@ use Rattle.std.specs.Global.{Vec}
 use Rattle.mlt_script.specs.{declared.script.Script.Script, Scripts.ScriptForm}
 use Rattle.mlt_types.specs.declared.refusal.Refusal.{Refusal}
 use Rattle.mlt_script_serial.specs.{declared.outcome.End.End, declared.outcome.End.TheVariants.Refused, declared.outcome.Outcome.Outcome, Clients.AreOutcomes}
-use Rattle.mlt_work_clients.specs.{Claims.times, declared.forms.ClientRun.ClientRun}
+use Rattle.mlt_work_clients.specs.{Claims.times, ClientOutcomes.OutcomeRelation, declared.forms.ClientRun.ClientRun}
 
 -- the scripts of each client
 abbrev pub scripts_of_clients : List (Vec Script) → List (List ScriptForm)
@@ -34,14 +34,14 @@ abbrev pub AreClientOutcomes : List ScriptForm → List Outcome → Type 0
 AreClientOutcomes scripts outcomes =
     AreOutcomes 0 scripts outcomes × All (λ outcome. IsScriptEnd outcome.end) outcomes
 
--- the run has an outcome for each script of the client at its place
-abbrev pub IsClientRun : List (List ScriptForm) → ClientRun → Type 0
-IsClientRun clients run = (run.place < length clients) × AreClientOutcomes (slice_index_or clients run.place []) run.outcomes.items
+-- the run has outcomes that the scripts of the client at its place may have
+abbrev pub IsClientRun : OutcomeRelation → List (List ScriptForm) → ClientRun → Type 0
+IsClientRun are_outcomes clients run = (run.place < length clients) × are_outcomes (slice_index_or clients run.place []) run.outcomes.items
 
 -- each run stands at its own place
-abbrev pub AreInPlace : List (List ScriptForm) → List (Option ClientRun) → Type 0
-AreInPlace clients slots =
-    (place : ℕ) → place < length slots → IfSome (slice_index_or slots place None) (λ run. (run.place ≡ place) × IsClientRun clients run)
+abbrev pub AreInPlace : OutcomeRelation → List (List ScriptForm) → List (Option ClientRun) → Type 0
+AreInPlace are_outcomes clients slots =
+    (place : ℕ) → place < length slots → IfSome (slice_index_or slots place None) (λ run. (run.place ≡ place) × IsClientRun are_outcomes clients run)
 
 -- this place has its run
 abbrev pub HasRunAt : List (Option ClientRun) → ℕ → Type 0
@@ -59,8 +59,8 @@ AllHaveRuns slots = (place : ℕ) → place < length slots → HasRunAt slots pl
 abbrev pub KeepsRuns : List (Option ClientRun) → List (Option ClientRun) → Type 0
 KeepsRuns before after = (place : ℕ) → place < length before → HasRunAt before place → HasRunAt after place
 
--- an outcome for each script of each client, clients and scripts in order
-abbrev pub AreAllOutcomes : List (List ScriptForm) → List Outcome → Type 0
-AreAllOutcomes [] outcomes = outcomes ≡ []
-AreAllOutcomes (client ∷ clients) outcomes =
-    (front : List Outcome) × (rest : List Outcome) × (outcomes ≡ front ++ rest) × AreClientOutcomes client front × AreAllOutcomes clients rest
+-- outcomes that the scripts of each client may have, clients in order
+abbrev pub AreAllOutcomes : OutcomeRelation → List (List ScriptForm) → List Outcome → Type 0
+AreAllOutcomes are_outcomes [] outcomes = outcomes ≡ []
+AreAllOutcomes are_outcomes (client ∷ clients) outcomes =
+    (front : List Outcome) × (rest : List Outcome) × (outcomes ≡ front ++ rest) × are_outcomes client front × AreAllOutcomes are_outcomes clients rest

@@ -1,7 +1,7 @@
 -- Workers, before and after their work.
 use Rattle.std.specs.Prelude.{◌≡◌, ℕ, ◌-◌, ◌<◌, ◌≤◌, List, [], ◌∷◌, ◌++◌, All, length, map, Bool, false}
 use Rattle.mlt_script.specs.Scripts.{ScriptForm}
-use Rattle.mlt_work_clients.specs.{declared.seats.SeatView.SeatView, declared.seats.ClientCounter.ClientCounter, declared.seats.ClaimHandle.ClaimHandle, Claims.new_view, Claims.times, Claims.view, Seats.IsOf, Seats.view_of, declared.forms.ClientRun.ClientRun, Places.IsClientRun, Places.place_of}
+use Rattle.mlt_work_clients.specs.{declared.seats.SeatView.SeatView, declared.seats.ClientCounter.ClientCounter, declared.seats.ClaimHandle.ClaimHandle, Claims.new_view, Claims.times, Claims.view, Seats.IsOf, Seats.view_of, ClientOutcomes.OutcomeRelation, declared.forms.ClientRun.ClientRun, Places.IsClientRun, Places.place_of}
 
 -- what the first seat knows once it was split so often
 abbrev pub view_after_splits : ℕ → ℕ → SeatView
@@ -21,8 +21,8 @@ HasDrawnPast clients drawn = (number : ℕ) × (clients ≤ number) × (0 < time
 
 -- A worker's seat and its runs: each is a run of the client at its place. A worker that has not failed ran each client that it
 -- claimed, and claimed on until none was left.
-pub record HasWorked (counter : ClientCounter) (clients : List (List ScriptForm)) (claim_handle : ClaimHandle) (runs : List ClientRun) (failed : Bool) : Type 0 where
+pub record HasWorked (are_outcomes : OutcomeRelation) (counter : ClientCounter) (clients : List (List ScriptForm)) (claim_handle : ClaimHandle) (runs : List ClientRun) (failed : Bool) : Type 0 where
   pub seat : IsOf counter claim_handle
   pub parts : (view_of claim_handle).parts ≡ 1
-  pub runs_each : All (IsClientRun clients) runs
+  pub runs_each : All (IsClientRun are_outcomes clients) runs
   pub drew : failed ≡ false → HasDrawn (length clients) (map place_of runs) (view_of claim_handle).drawn

@@ -6,6 +6,7 @@ ghost use Rattle.mlt_work_clients.specs.Seats.{IsOf, view_of};
 ghost use Rattle.mlt_work_clients.specs.Places.{AreAllOutcomes, HaveRuns, AllHaveRuns, AreInPlace, IsClientRun, KeepsRuns, place_of, scripts_of_clients};
 ghost use Rattle.mlt_work_clients.specs.Workers.{HasDrawnPast, HasWorked, view_after_splits};
 
+use crate::client_outcomes::ClientOutcomes;
 use crate::forms::{ClientRun, Worked};
 use crate::seats::{ClaimHandle, ClientCounter};
 use mlt_script::Script;
@@ -29,12 +30,16 @@ pub fn empty_slots(alloc: Global, clients: usize) -> Result<Vec<Option<ClientRun
 }
 
 /// Puts each run at its place.
-fn place_all(clients: &[Vec<Script>], slots: &mut Vec<Option<ClientRun>>, runs: Vec<ClientRun>)
+fn place_all<O: ClientOutcomes>(
+    clients: &[Vec<Script>],
+    slots: &mut Vec<Option<ClientRun>>,
+    runs: Vec<ClientRun>,
+)
     requires len { length slots.old.items ≡ length clients.now }
-    requires placed { AreInPlace (scripts_of_clients clients.now) slots.old.items }
-    requires runs { All (IsClientRun (scripts_of_clients clients.now)) runs.items }
+    requires placed { AreInPlace O.are_outcomes (scripts_of_clients clients.now) slots.old.items }
+    requires runs { All (IsClientRun O.are_outcomes (scripts_of_clients clients.now)) runs.items }
     ensures len { length slots.new.items ≡ length clients.now }
-    ensures placed { AreInPlace (scripts_of_clients clients.now) slots.new.items }
+    ensures placed { AreInPlace O.are_outcomes (scripts_of_clients clients.now) slots.new.items }
     ensures kept { KeepsRuns slots.old.items slots.new.items }
     ensures filled { HaveRuns (map place_of runs.items) slots.new.items }
 {
@@ -47,7 +52,7 @@ fn place_all(clients: &[Vec<Script>], slots: &mut Vec<Option<ClientRun>>, runs: 
 
 /// Takes in what each worker gives back: the first seat takes in its seat, the whole its share, and its runs come to their
 /// places. It answers the number of all events, and whether a worker has failed.
-fn gather<L: Ledger>(
+fn gather<O: ClientOutcomes, L: Ledger>(
     counter: &ClientCounter,
     clients: &[Vec<Script>],
     first: &mut ClaimHandle,
@@ -62,16 +67,17 @@ fn gather<L: Ledger>(
     requires drawn { (view_of first.old).drawn ≡ [] }
     requires share { all.old.parts + vec_len results ≡ 9 }
     requires amount { all.old.amount ≡ 0 }
-    requires worked { All (λ worked. HasWorked counter.now (scripts_of_clients clients.now)
-        worked.claim_handle worked.runs.items worked.failed) results.items }
+    requires worked { All (λ worked. HasWorked O.are_outcomes counter.now
+        (scripts_of_clients clients.now) worked.claim_handle worked.runs.items worked.failed)
+        results.items }
     requires len { length slots.old.items ≡ length clients.now }
-    requires placed { AreInPlace (scripts_of_clients clients.now) slots.old.items }
+    requires placed { AreInPlace O.are_outcomes (scripts_of_clients clients.now) slots.old.items }
     ensures seat { IsOf counter.now first.new }
     ensures all { HasAll (view_of first.new) }
     ensures share { all.new.parts ≡ 9 }
     ensures events { result.0 ≡ min all.new.amount (2 ^ 64 - 1) }
     ensures len { length slots.new.items ≡ length clients.now }
-    ensures placed { AreInPlace (scripts_of_clients clients.now) slots.new.items }
+    ensures placed { AreInPlace O.are_outcomes (scripts_of_clients clients.now) slots.new.items }
     ensures filled { result.1 ≡ false → HaveRuns (view_of first.new).drawn slots.new.items }
     ensures past { result.1 ≡ false
         → HasDrawnPast (length clients.now) (view_of first.new).drawn }
@@ -91,7 +97,7 @@ fn gather<L: Ledger>(
         all.merge(share);
         events = events.saturating_add(more);
         failed = either(failed, stopped);
-        place_all(clients, slots, runs);
+        place_all::<O>(clients, slots, runs);
     }
     (events, failed)
 }
@@ -106,16 +112,16 @@ fn either(first: bool, second: bool) -> bool
 ///
 /// # Errors
 /// Where a growth is refused.
-fn flatten(
+fn flatten<O: ClientOutcomes>(
     alloc: Global,
     clients: &[Vec<Script>],
     slots: Vec<Option<ClientRun>>,
 ) -> Result<Vec<Outcome>, AllocError>
     requires len { length slots.items ≡ length clients.now }
-    requires placed { AreInPlace (scripts_of_clients clients.now) slots.items }
+    requires placed { AreInPlace O.are_outcomes (scripts_of_clients clients.now) slots.items }
     requires full { AllHaveRuns slots.items }
-    ensures { IfOk result
-        (λ outcomes. AreAllOutcomes (scripts_of_clients clients.now) outcomes.items) }
+    ensures { IfOk result (λ outcomes.
+        AreAllOutcomes O.are_outcomes (scripts_of_clients clients.now) outcomes.items) }
 {
     let mut slots = slots;
     let mut outcomes = Vec::new(alloc);
@@ -137,7 +143,7 @@ fn flatten(
 ///
 /// # Errors
 /// `OutOfMemory`, where a worker was refused a growth, or this call is.
-pub fn collect<L: Ledger>(
+pub fn collect<O: ClientOutcomes, L: Ledger>(
     alloc: Global,
     counter: ClientCounter,
     clients: &[Vec<Script>],
@@ -152,22 +158,23 @@ pub fn collect<L: Ledger>(
     requires view { view_of first ≡ view_after_splits (vec_len results) (length clients.now) }
     requires share { all.old.parts + vec_len results ≡ 9 }
     requires amount { all.old.amount ≡ 0 }
-    requires worked { All (λ worked. HasWorked counter (scripts_of_clients clients.now)
-        worked.claim_handle worked.runs.items worked.failed) results.items }
+    requires worked { All (λ worked. HasWorked O.are_outcomes counter
+        (scripts_of_clients clients.now) worked.claim_handle worked.runs.items worked.failed)
+        results.items }
     requires slots { slots.items ≡ replicate (length clients.now) None }
     ensures outcomes { IfOk result
-        (λ got. AreAllOutcomes (scripts_of_clients clients.now) got.0) }
+        (λ got. AreAllOutcomes O.are_outcomes (scripts_of_clients clients.now) got.0) }
     ensures events { IfOk result (λ got. got.1 ≡ min all.new.amount (2 ^ 64 - 1)) }
     ensures share { all.new.parts ≡ 9 }
     ensures refusal { IsOkUnless result Refusal.OutOfMemory }
 {
     let mut first = first;
     let mut slots = slots;
-    let (events, failed) = gather(&counter, clients, &mut first, all, &mut slots, results);
+    let (events, failed) = gather::<O, L>(&counter, clients, &mut first, all, &mut slots, results);
     let _drawn = counter.close(first);
     if failed {
         return Err(Refusal::OutOfMemory);
     }
-    let outcomes = flatten(alloc, clients, slots)?;
+    let outcomes = flatten::<O>(alloc, clients, slots)?;
     Ok((Outcomes::of(outcomes), events))
 }

@@ -3,10 +3,10 @@ use Rattle.mlt_work_clients.specs.Places.{AreAllOutcomes, HasRunAt, IsClientRun,
 use Rattle.mlt_work_clients.proofs.collecting.flatten.Given as goal
 
 abbrev pub invariant-loop-i : goal.invariant-loop-i
-invariant-loop-i l = record {
+invariant-loop-i g l = record {
   len : length l.slots.items ≡ length l.clients;
   full : (j : ℕ) → l.i ≤ j → j < length l.clients → HasRunAt l.slots.items j;
   placed : (j : ℕ) → l.i ≤ j → j < length l.clients
-      → IfSome (slice_index_or l.slots.items j None) (λ run. (run.place ≡ j) × IsClientRun (scripts_of_clients l.clients) run);
-  done : AreAllOutcomes (take l.i (scripts_of_clients l.clients)) l.outcomes.items;
+      → IfSome (slice_index_or l.slots.items j None) (λ run. (run.place ≡ j) × IsClientRun g.O.ClientOutcomes.are_outcomes (scripts_of_clients l.clients) run);
+  done : AreAllOutcomes g.O.ClientOutcomes.are_outcomes (take l.i (scripts_of_clients l.clients)) l.outcomes.items;
 }

@@ -3,7 +3,7 @@ use Rattle.mlt_work_clients.{specs.Places.place_of, proofs.Placing.ArePut}
 use Rattle.mlt_work_clients.proofs.collecting.place_all.Given as goal
 
 abbrev pub invariant-loop-run : goal.invariant-loop-run
-invariant-loop-run l = ArePut l.clients l.fn.slots.items (map place_of l.fn.runs.items) l.slots.items l.rest.items
+invariant-loop-run g l = ArePut g.O.ClientOutcomes.are_outcomes l.clients l.fn.slots.items (map place_of l.fn.runs.items) l.slots.items l.rest.items
 
 abbrev pub decreases-loop-run : goal.decreases-loop-run
-decreases-loop-run l = vec_len l.rest
+decreases-loop-run g l = vec_len l.rest
