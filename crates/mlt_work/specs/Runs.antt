@@ -5,7 +5,7 @@ use Rattle.mlt_script_serial.specs.declared.report.Report.{Report}
 use Rattle.mlt_trace_audit.specs.{Agreement.Agrees, Committed.IsBaseOfOutcomes}
 use Rattle.mlt_manager.specs.{Managers.ManagerFields, Openings.IsMadeWith}
 use Rattle.mlt_types.specs.declared.limits.Limits.{Limits}
-use Rattle.mlt_work_clients.specs.Places.{AreAllOutcomes}
+use Rattle.mlt_work_clients.specs.Places.{AreAllOutcomes, AreClientOutcomes}
 
 -- The report of the scripts of each client, which were run on this manager, made with these limits and this function from
 -- keys to pseudokeys.
@@ -14,7 +14,7 @@ pub record HasRunAll {P : Type 0} (clients : List (List ScriptForm)) (limits : L
   -- the manager has these limits and this function
   pub made : IsMadeWith manager limits pseudo
   -- an outcome for each script, clients and scripts in order
-  pub outcomes : AreAllOutcomes clients report.outcomes
+  pub outcomes : AreAllOutcomes AreClientOutcomes clients report.outcomes
   -- the events that the workers counted are those of the manager
   pub events : manager.events ≡ report.events
   -- what scripts were told is what the manager has done

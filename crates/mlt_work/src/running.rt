@@ -92,7 +92,7 @@ fn run_with<
             return Err(Refusal::OutOfMemory);
         }
     };
-    let (outcomes, events) = match collect(
+    let (outcomes, events) = match collect::<Brand, L>(
         alloc, counter, clients, first, &mut all, slots, results,
     ) {
         Ok(got) => got,

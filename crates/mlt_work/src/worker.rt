@@ -2,7 +2,7 @@
 
 ghost use Rattle.std.specs.Prelude.{◌≡◌, All, IfOk, [], length, vec_len};
 ghost use Rattle.mlt_script_serial.specs.Clients.{AreOutcomes, AreRunsAt};
-ghost use Rattle.mlt_work_clients.specs.Places.{scripts_of_clients};
+ghost use Rattle.mlt_work_clients.specs.Places.{AreClientOutcomes, scripts_of_clients};
 ghost use Rattle.mlt_work_clients.specs.Workers.{HasWorked, IsFresh};
 
 use crate::client_order::ClientOrder;
@@ -52,7 +52,7 @@ fn run_claimed<P: Pseudo, L: MadeWith<P>, R: Wait, G: Gate>(
 ) -> bool
     requires fresh { IsFresh counter.now (length clients.now) claim_handle.old }
     requires empty { runs.old.items ≡ [] }
-    ensures { HasWorked counter.now (scripts_of_clients clients.now)
+    ensures { HasWorked AreClientOutcomes counter.now (scripts_of_clients clients.now)
         claim_handle.new runs.new.items result }
 {
     'claims: for _ in rt.forever() {
@@ -96,8 +96,9 @@ fn work<P: Pseudo, L: MadeWith<P>, R: Wait, G: Gate>(
     job: WorkerJob<L>,
 ) -> Worked<L>
     requires { IsFresh context.now.counter.now (length context.now.clients.now) job.claim_handle }
-    ensures { HasWorked context.now.counter.now (scripts_of_clients context.now.clients.now)
-        result.claim_handle result.runs.items result.failed }
+    ensures { HasWorked AreClientOutcomes context.now.counter.now
+        (scripts_of_clients context.now.clients.now) result.claim_handle result.runs.items
+        result.failed }
 {
     let WorkerJob {
         mut claim_handle,
@@ -148,10 +149,9 @@ pub(crate) fn work_all<
     requires { All (λ job. IsFresh context.now.counter.now
         (length context.now.clients.now) job.claim_handle) jobs.items }
     ensures len { IfOk result (λ results. vec_len results ≡ vec_len jobs) }
-    ensures each { IfOk result (λ results. All (λ worked. HasWorked context.now.counter.now
-        (scripts_of_clients context.now.clients.now) worked.claim_handle worked.runs.items
-        worked.failed)
-        results.items) }
+    ensures each { IfOk result (λ results. All (λ worked. HasWorked AreClientOutcomes
+        context.now.counter.now (scripts_of_clients context.now.clients.now)
+        worked.claim_handle worked.runs.items worked.failed) results.items) }
 {
     thread::map_vec(rt, jobs, &|job| { work(rt, alloc, context, job) })
 }

@@ -19,10 +19,10 @@ claims-preserved g c =
     let here : get_or lists number [] ≡ c.as_slice-scripts.result.now = get_or-map items clients number client [] small ∙ ap items (sym c.index-clients-place.is) ∙ sym c.as_slice-scripts.ensures.value in
     let long : length lists ≡ length clients = length-map clients items in
     let ends = runs_end g.P.Pseudo.bits_of (λ d. desk_view d.snapshot d.tries) _ _ _ _ c.in-Ok.ensures.runs in
-    let one : IsClientRun lists run = (omega arith, subst (λ (ss : List ScriptForm). AreClientOutcomes ss c.in-Ok.outcomes.items) (sym here) (c.in-Ok.ensures.outcomes, ends)) in
+    let one : IsClientRun AreClientOutcomes lists run = (omega arith, subst (λ (ss : List ScriptForm). AreClientOutcomes ss c.in-Ok.outcomes.items) (sym here) (c.in-Ok.ensures.outcomes, ends)) in
     rw (c.push_reserved.ensures.items, c.reserve.ensures.items) record {
       seat = c.draw-number.ensures.beside ∙ l.invariant.seat;
       view = draws_client (view_of l.claim_handle) (view_of c.draw-number.new.claim_handle) (length clients) number (map place_of l.runs.items) l.invariant.view c.draw-number.ensures.drawn small
           ∙ ap (λ (ns : List ℕ). view 1 1 (length clients) ns) (sym (map-append place_of l.runs.items (run ∷ [])));
-      each = All-push (IsClientRun lists) l.runs.items run l.invariant.each one;
+      each = All-push (IsClientRun AreClientOutcomes lists) l.runs.items run l.invariant.each one;
     }
