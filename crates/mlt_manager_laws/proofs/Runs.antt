@@ -137,7 +137,7 @@ module _ {P : Type 0} (bits_of : P → ℕ → ℕ) (root : Root P) (active : se
         left_aside other told (event_leaves bits_of tx t (counted m) next (counted_keeps bits_of m h) there other told ne (λ i is. absurd (cc is)) a) refl
 
   -- **The steps of a transaction in a run are steps of its own.**
-  pub run_steps : (events : List Event) (tolds : List Told) (m m' : ManagerFields P) (t : Transaction) → IsManager bits_of m → map.get m.txs tx ≡ Some t → m.root ≡ root → OnlySteps tx events → IsRun bits_of m events tolds m'
+  run_steps : (events : List Event) (tolds : List Told) (m m' : ManagerFields P) (t : Transaction) → IsManager bits_of m → map.get m.txs tx ≡ Some t → m.root ≡ root → OnlySteps tx events → IsRun bits_of m events tolds m'
       → HasOwnSteps (context_by bits_of root active tx) t (view_in t m.shared) tx events tolds
   run_steps [] [] m m' t h there same only run = record { steps = []; own = tt; answers = refl }
   run_steps (e ∷ es) (told ∷ tolds) m m' t h there same only (next, meets, rest) =

@@ -19,7 +19,7 @@ ghost use Rattle.mlt_manager.specs.Events.{IsRun, Meets};
 ghost use Rattle.mlt_manager.specs.Managers.{ManagerFields};
 ghost use Rattle.mlt_manager.specs.Openings.{IsNew};
 ghost use Rattle.mlt_manager.specs.Promises.{KeepsPromises};
-ghost use Rattle.mlt_manager_laws.specs.Runs.{HasOwnSteps, IsCutBehind, IsReached, OnlySteps, TakesOwnSteps, TakesPassInRun};
+ghost use Rattle.mlt_manager_laws.specs.Runs.{IsCutBehind, IsReached, OnlySteps, TakesOwnSteps, TakesPassInRun};
 
 use mlt_hash_form::{form_is_extendible_hashing, records_are_a_map};
 use mlt_types::Pseudo;
@@ -36,17 +36,6 @@ pub fn managers_of_a_run_keep_their_promises<P: Pseudo>()
     form_is_extendible_hashing();
     records_are_a_map();
 }
-
-/// The steps that a transaction takes in a run of a manager, where nothing else is asked of it, are steps of its own:
-/// whatever others do between two of them leaves what it sees.
-pub fn steps_of_a_run_are_own_steps<P: Pseudo>()
-    ensures { (old new : ManagerFields P) (events : List Event) (tolds : List Told)
-        (tx : ℕ) (t : Transaction)
-        → IsReached P.bits_of old → map.get old.txs tx ≡ Some t
-        → OnlySteps tx events → IsRun P.bits_of old events tolds new
-        → HasOwnSteps (context_by P.bits_of old.root old.active tx) t (view_in t old.shared)
-        tx events tolds }
-{}
 
 /// From its call on, an operation on one record gets Done or Blocked at its fourth step, and Going at the three before it,
 /// unless it is an addition that finds no room. That one gets Going at its third step too, and then a narrow or a wide pass
