@@ -4,17 +4,20 @@ use Rattle.std.proofs.lemmas.Bool.{cases_eq, cond-false, cond-true}
 use Rattle.std.specs.FinMap as map
 use Rattle.std.specs.FinSet as set
 use Rattle.mlt_types.specs.declared.limits.Limits.{Limits}
-use Rattle.mlt_manager_laws.proofs.Names.{ObjOp, context_by, Answer, Event, Told, Transaction, Table, view_in, HasStepped, txs_after, Meets, IsManager, ManagerFields, one_there, promises_kept}
+use Rattle.mlt_manager_laws.proofs.Names.{ObjOp, context_by, Answer, Event, Told, At, Transaction, Table, view_in, HasStepped, txs_after, Meets, IsManager, ManagerFields, one_there, promises_kept}
 use Rattle.mlt_object_kinds.specs.declared.operation.ObjReply.{ObjReply}
 use Rattle.mlt_page.specs.declared.page.Page.{Page}
 use Rattle.mlt_hash_access.specs.Views.{View}
+use Rattle.mlt_hash.specs.Walks.{WalkContext}
 use Rattle.mlt_hash_form.specs.{File.FilePages, File.GivesPseudokeys, File.HasForm, Prefixes.IsExtendibleHashFile, Records.IsRecordMap, Records.live_records, declared.root.Root.Root}
-use Rattle.mlt_tx.specs.Transactions.{TellsOfTransaction}
+use Rattle.mlt_object_base.specs.declared.request.Request.TheVariants.{Do}
+use Rattle.mlt_tx_operation.specs.Operating.{OperationFields, started_for}
+use Rattle.mlt_tx.specs.{declared.shared.SharedState.SharedState, Transactions.TellsAt, Transactions.TellsOfTransaction}
 use Rattle.mlt_manager_invariant.proofs.Tables.{inserted_here}
 use Rattle.mlt_tx_step_counts.{specs.Counts.IsToTakeBack, specs.CountsOfTwo.TakesBackOf, specs.OwnSteps.AreOwnSteps, specs.OwnSteps.OwnStep, specs.OwnSteps.with_answer, proofs.PassesOfTwo.inverse_of_any, proofs.PassesOfTwo.pass_of}
-use Rattle.mlt_manager.{specs.Answers.counted, specs.Events.IsRun, specs.Openings.IsNew, proofs.Keeping.counted_keeps}
+use Rattle.mlt_manager.{specs.Answers.counted, specs.Bases.IsPendingWith, specs.Events.IsRun, specs.Openings.IsNew, proofs.Keeping.counted_keeps}
 use Rattle.mlt_manager.proofs.Kept.{abort_kept, begin_kept, call_kept, cancel_kept, commit_kept, new_kept, step_kept, whole_kept, whole_undo_kept}
-use Rattle.mlt_manager_laws.specs.Runs.{HasOwnSteps, IsCutBehind, IsReached, IsStepOrAnothers, OnlySteps, TakesOwnSteps, TakesPassInRun, answers_to, up_to_end, with_told}
+use Rattle.mlt_manager_laws.specs.Runs.{BeginsFirstPass, HasOwnSteps, IsCutBehind, IsReached, IsStepOrAnothers, OnlySteps, TakesOwnSteps, TakesPassInRun, answers_to, up_to_end, with_told}
 use Rattle.mlt_manager_laws.proofs.{Events.event_leaves, Events.same_stays, Seen.StaysAs}
 
 -- **An event that meets its contract keeps what is always true.**
@@ -146,19 +149,45 @@ module _ {P : Type 0} (bits_of : P → ℕ → ℕ) (root : Root P) (active : se
       e told only.0 meets
   run_steps es tolds m m' t h there same only none = absurd none
 
--- **From a call on.**
-pub from_call : {P : Type 0} (bits_of : P → ℕ → ℕ) (tx : ℕ) (op : ObjOp) (events : List Event) (tolds : List Told) (m called new : ManagerFields P) → IsManager bits_of m
-    → Meets bits_of (Event.Call tx op) Told.Called (counted m) called → OnlySteps tx events → IsRun bits_of called events tolds new → TakesPassInRun bits_of called tx op events tolds
-from_call bits_of tx op events tolds m called new h call only run =
-    let t = call.calls.changes.after in
-    let there : map.get called.txs tx ≡ Some t = ap (λ (x : Table). map.get x tx) call.calls.changes.is ∙ inserted_here m.txs tx t in
-    let h' = meets_keeps bits_of (counted m) called (counted_keeps bits_of m h) (Event.Call tx op) Told.Called call in
-    let has = run_steps bits_of called.root called.active tx events tolds called new t h' there refl only run in
-    record {
-      t = t;
-      there = there;
-      takes = (has, pass_of (context_by bits_of called.root called.active tx) op t (view_in t called.shared) has.steps call.calls.tells.pending has.own);
-    }
+-- what is pending behind a step that was told Blocked has taken no step
+blocked_anew : (context : WalkContext) (a : At) (before after : Transaction) (old new : SharedState) (by : ℕ) (op : ObjOp) → TellsAt a context before after old new (Answer.Blocked by) → IsPendingWith op after.at → after.at ≡ At.Pending (started_for (Do op))
+blocked_anew context At.Idle before after old new by op none pending = absurd none
+blocked_anew context (At.Pending o) before after old new by op s pending =
+    let again : s.next ≡ started_for o.request = s.tells.1 in
+    let asked : s.next.request ≡ Do op = subst (IsPendingWith op) s.now_at pending in
+    let same : o.request ≡ Do op = sym (ap (λ (n : OperationFields). n.request) again) ∙ asked in
+    s.now_at ∙ ap At.Pending (again ∙ ap started_for same)
+blocked_anew context (At.Undoing inverting) before after old new by op s pending = absurd s.tells
+
+-- **From the begin of a first pass on.**
+pub from_first : {P : Type 0} (bits_of : P → ℕ → ℕ) (tx : ℕ) (op : ObjOp) (events : List Event) (tolds : List Told) (m first new : ManagerFields P) → IsManager bits_of m
+    → BeginsFirstPass bits_of m first tx op → OnlySteps tx events → IsRun bits_of first events tolds new → TakesPassInRun bits_of first tx op events tolds
+from_first {P = P} bits_of tx op events tolds m first new h begins only run = elim begins [
+  | inl call ↦
+      let c = call.calls.changes in
+      pass_from c.after (inserted c.after c.is) (keeps (Event.Call tx op) Told.Called call) call.calls.tells.pending
+  | inr (by, pending, step) ↦
+      let c = step.0.steps.changes in
+      let there : map.get first.txs tx ≡ Some c.after = inserted c.after (ap (λ (n : ManagerFields P). n.txs) step.0.rest ∙ c.is) in
+      let is_at : IsPendingWith op c.after.at = subst (λ (t : Transaction). IsPendingWith op t.at) (one_there first.txs tx pending.one c.after pending.there there) pending.is_at in
+      pass_from c.after there (keeps (Event.Step tx) (Told.Answered (Answer.Blocked by)) step)
+      (blocked_anew (context_by bits_of m.root m.active c.before.subtx.tx) c.before.at c.before c.after m.shared first.shared by op step.0.steps.tells is_at)
+]
+  where
+    keeps : (e : Event) (told : Told) → Meets bits_of e told (counted m) first → IsManager bits_of first
+    keeps e told = meets_keeps bits_of (counted m) first (counted_keeps bits_of m h) e told
+
+    inserted : (t : Transaction) → first.txs ≡ map.insert m.txs tx t → map.get first.txs tx ≡ Some t
+    inserted t is = ap (λ (x : Table). map.get x tx) is ∙ inserted_here m.txs tx t
+
+    pass_from : (t : Transaction) → map.get first.txs tx ≡ Some t → IsManager bits_of first → t.at ≡ At.Pending (started_for (Do op)) → TakesPassInRun bits_of first tx op events tolds
+    pass_from t there h' pending =
+        let has = run_steps bits_of first.root first.active tx events tolds first new t h' there refl only run in
+        record {
+          t = t;
+          there = there;
+          takes = (has, pass_of (context_by bits_of first.root first.active tx) op t (view_in t first.shared) has.steps pending has.own);
+        }
 
 -- **From the abort on.**
 pub from_abort : {P : Type 0} (bits_of : P → ℕ → ℕ) (tx : ℕ) (events : List Event) (tolds : List Told) (m new : ManagerFields P) (t : Transaction) (last : ObjOp × ObjReply) → IsManager bits_of m

@@ -1,5 +1,5 @@
 -- What the steps of one transaction are told in a run of a manager
-use Rattle.std.specs.Prelude.{ℕ, ◌≡◌, ◌≢◌, nat_eq, List, [], ◌∷◌, ◌++◌, Some, if◌then◌else◌}
+use Rattle.std.specs.Prelude.{ℕ, ◌≡◌, ◌≢◌, ◌⊎◌, nat_eq, List, [], ◌∷◌, ◌++◌, Some, if◌then◌else◌}
 use Rattle.std.specs.FinMap as map
 use Rattle.mlt_types.specs.declared.limits.Limits.{Limits}
 use Rattle.mlt_object_kinds.specs.declared.operation.ObjOp.{ObjOp}
@@ -9,7 +9,7 @@ use Rattle.mlt_event.specs.declared.{answer.Answer.Answer, event.Event.Event, to
 use Rattle.mlt_tx.specs.declared.transaction.Transaction.{Transaction}
 use Rattle.mlt_tx_step_counts.specs.CountsOfTwo.{TakesPassOf}
 use Rattle.mlt_tx_step_counts.specs.OwnSteps.{AreOwnSteps, OwnStep, answers_of, view_in, with_answer}
-use Rattle.mlt_manager.specs.{Events.IsRun, Managers.ManagerFields, Openings.IsNew, Promises.KeepsPromises}
+use Rattle.mlt_manager.specs.{Answers.IsOpenAt, Answers.counted, Bases.IsPendingWith, Events.IsRun, Events.Meets, Managers.ManagerFields, Openings.IsNew, Promises.KeepsPromises}
 
 -- The event is a step of this transaction, or one of another, or one begins.
 abbrev pub IsStepOrAnothers : ℕ → Event → Type 0
@@ -79,6 +79,15 @@ abbrev pub TakesOwnSteps : WalkContext → Transaction → View → ℕ → List
     → (List OwnStep → Type 0) → Type 0
 TakesOwnSteps context t seen tx events tolds Takes =
     (has : HasOwnSteps context t seen tx events tolds) × Takes has.steps
+
+-- An event behind which a first pass of this operation is to begin: the transaction is called with
+-- it; or its step is told Blocked, and the operation is still pending.
+abbrev pub BeginsFirstPass : {P : Type 0} → (P → ℕ → ℕ) → ManagerFields P → ManagerFields P → ℕ
+    → ObjOp → Type 0
+BeginsFirstPass bits_of old new tx op =
+    Meets bits_of (Event.Call tx op) Told.Called (counted old) new
+    ⊎ ((by : ℕ) × IsOpenAt new.txs tx (IsPendingWith op)
+    × Meets bits_of (Event.Step tx) (Told.Answered (Answer.Blocked by)) (counted old) new)
 
 -- The transaction of this number is open, and its steps are those of a first pass of this operation.
 pub record TakesPassInRun {P : Type 0} (bits_of : P → ℕ → ℕ) (m : ManagerFields P) (tx : ℕ)

@@ -7,19 +7,16 @@ ghost use Rattle.mlt_object_kinds.specs.declared.operation.ObjOp.{ObjOp};
 ghost use Rattle.mlt_object_kinds.specs.declared.operation.ObjReply.{ObjReply};
 ghost use Rattle.mlt_hash.specs.Walks.{context_by};
 ghost use Rattle.mlt_event.specs.declared.event.Event.{Event};
-ghost use Rattle.mlt_event.specs.declared.event.Event.TheVariants as event;
 ghost use Rattle.mlt_event.specs.declared.told.Told.{Told};
-ghost use Rattle.mlt_event.specs.declared.told.Told.TheVariants as told;
 ghost use Rattle.mlt_tx.specs.declared.transaction.Transaction.{Transaction};
 ghost use Rattle.mlt_tx_step_counts.specs.Counts.{IsToTakeBack};
 ghost use Rattle.mlt_tx_step_counts.specs.CountsOfTwo.{TakesBackOf};
 ghost use Rattle.mlt_tx_step_counts.specs.OwnSteps.{view_in};
-ghost use Rattle.mlt_manager.specs.Answers.{counted};
-ghost use Rattle.mlt_manager.specs.Events.{IsRun, Meets};
+ghost use Rattle.mlt_manager.specs.Events.{IsRun};
 ghost use Rattle.mlt_manager.specs.Managers.{ManagerFields};
 ghost use Rattle.mlt_manager.specs.Openings.{IsNew};
 ghost use Rattle.mlt_manager.specs.Promises.{KeepsPromises};
-ghost use Rattle.mlt_manager_laws.specs.Runs.{IsCutBehind, IsReached, OnlySteps, TakesOwnSteps, TakesPassInRun};
+ghost use Rattle.mlt_manager_laws.specs.Runs.{BeginsFirstPass, IsCutBehind, IsReached, OnlySteps, TakesOwnSteps, TakesPassInRun};
 
 use mlt_hash_form::{form_is_extendible_hashing, records_are_a_map};
 use mlt_types::Pseudo;
@@ -37,17 +34,16 @@ pub fn managers_of_a_run_keep_their_promises<P: Pseudo>()
     records_are_a_map();
 }
 
-/// From its call on, an operation on one record gets Done or Blocked at its fourth step, and Going at the three before it,
-/// unless it is an addition that finds no room. That one gets Going at its third step too, and then a narrow or a wide pass
-/// follows. An operation on two records gets Done or Blocked at its fourth to seventh step; or it finds no room at its third
-/// to fifth, and then a wide pass follows.
+/// From its call on, or from a step on that was told Blocked, an operation on one record gets Done or Blocked at its fourth
+/// step, and Going at the three before it, unless it is an addition that finds no room. That one gets Going at its third step
+/// too, and then a narrow or a wide pass follows. An operation on two records gets Done or Blocked at its fourth to seventh
+/// step; or it finds no room at its third to fifth, and then a wide pass follows.
 pub fn operations_of_a_run_take_few_steps<P: Pseudo>()
-    ensures { (old called new : ManagerFields P) (events : List Event) (tolds : List Told)
+    ensures { (old first new : ManagerFields P) (events : List Event) (tolds : List Told)
         (tx : ℕ) (op : ObjOp)
-        → IsReached P.bits_of old
-        → Meets P.bits_of (event.Call tx op) told.Called (counted old) called
-        → OnlySteps tx events → IsRun P.bits_of called events tolds new
-        → TakesPassInRun P.bits_of called tx op events tolds }
+        → IsReached P.bits_of old → BeginsFirstPass P.bits_of old first tx op
+        → OnlySteps tx events → IsRun P.bits_of first events tolds new
+        → TakesPassInRun P.bits_of first tx op events tolds }
 {}
 
 /// The last operation of a transaction whose abort has begun is taken back at the fourth step, told Going at the three
