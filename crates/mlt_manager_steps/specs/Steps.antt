@@ -1,10 +1,11 @@
 -- What `steps` writes for an input.
-use Rattle.std.specs.Prelude.{◌≡◌, ℕ, Bool, true, false, List, [], ◌∷◌, ◌++◌, codes}
+use Rattle.std.specs.Prelude.{◌≡◌, ℕ, Bool, true, false, List, [], ◌∷◌, ◌++◌, codes, flat_map, map}
+use Rattle.std.specs.Str.Lines.{lines}
 use Rattle.mlt_types.specs.declared.limits.Limits.{Limits}
 use Rattle.mlt_object_kinds.specs.{Bases.Base, Texts.with_number}
 use Rattle.mlt_object_base.specs.BaseText.{base_text}
 use Rattle.mlt_event.specs.declared.{event.Event.Event, told.Told.Told}
-use Rattle.mlt_event_text.specs.{Grammar.Spells, TellTexts.told_text}
+use Rattle.mlt_event_text.specs.{Grammar.Spells, TellTexts.told_line, TellTexts.told_text}
 use Rattle.mlt_manager.specs.{Bases.HasDepth, Events.Plays, Managers.ManagerFields, Promises.IsCommittedBaseOf}
 
 -- the line of a directory's depth
@@ -20,9 +21,23 @@ pub record IsTextBehind {P : Type 0} (lines : List ℕ) (manager : ManagerFields
   pub deep : HasDepth manager depth
   pub appended : text ≡ lines ++ (base_text base ++ depth_line depth)
 
--- The lines of what events were told. With the reasons they are a text for people, and tests say which.
+-- a line as a comment, which begins with `#`
+abbrev pub comment_line : List ℕ → List ℕ
+comment_line line = codes "# " ++ line ++ 10 ∷ []
+
+-- The line of what an event was told, and behind it its reasons: the lines of a text for people, each as a comment.
+abbrev pub explained_lines : Told × List ℕ → List ℕ
+explained_lines one = told_line one.0 ++ flat_map comment_line (lines one.1)
+
+-- These are the lines of what events were told, in order, and behind each one its reasons, if it has any, and nothing else.
+pub record AreExplained (tolds : List Told) (text : List ℕ) : Type 0 where
+  pub explained : List (Told × List ℕ)
+  pub told : map (λ one. one.0) explained ≡ tolds
+  pub written : text ≡ flat_map explained_lines explained
+
+-- The lines of what events were told, with their reasons or without. Which reasons these are, tests say.
 abbrev pub AreToldLines : Bool → List Told → List ℕ → Type 0
-AreToldLines true tolds lines = Unit {0}
+AreToldLines true tolds lines = AreExplained tolds lines
 AreToldLines false tolds lines = lines ≡ told_text tolds
 
 -- The events are played from a new manager to this one, and these are the lines of what they were told.

@@ -1,8 +1,9 @@
 //! Replays a schedule of events on a manager, and writes the result of each event and the base at
 //! the end. By the contract of `steps` the input spells the events, the manager has played them
-//! from its beginning, and the text shows their results. With `--explain` it adds the reason for
-//! each blocked operation and each wait. These lines are only tested, against some written by hand
-//! and against a model.
+//! from its beginning, and the text shows their results. With `--explain` lines that begin with `#`
+//! follow the result of each blocked operation and each wait, with the reason. By the contract
+//! nothing but such lines is added; which ones, is only tested, against some written by hand and
+//! against a model.
 #![tactic(auto)]
 
 mod examples;

@@ -1,4 +1,4 @@
-//! The reasons of blocks and waits, in lines that begin with `#`.
+//! The reasons of blocks and waits, as lines of a text. The caller writes each line behind a `#`.
 
 use crate::examples::{changes_asked, example_of};
 use crate::replayed::ReplayedState;
@@ -13,7 +13,7 @@ use std::alloc::AllocError;
 const MOST: usize = 64;
 
 // What the title and the lines of an example begin with.
-const LEADS: (&str, &str) = ("# Example of the conflict: ", "#   ");
+const LEADS: (&str, &str) = ("Example of the conflict: ", "  ");
 
 /// Appends the lines of the reason why an event was blocked or has to wait, by the state behind it.
 ///
@@ -66,18 +66,18 @@ fn push_block(
     };
     let (TxId(tx), TxId(by)) = (tx, by);
     let (done, told, reply) = (held.op(), held.reply(), asked.reply());
-    write!(text, "# T{tx} wants `{op}`; now it would get `{reply}`. ")?;
+    write!(text, "T{tx} wants `{op}`; now it would get `{reply}`. ")?;
     if place >= holder.standing {
         writeln!(text, "T{by} has undone `{done}` ({told}).")?;
-        write!(text, "# T{by} holds it until its abort ends")?;
+        write!(text, "T{by} holds it until its abort ends")?;
     } else {
         writeln!(text, "T{by} holds `{done}` ({told}), uncommitted.")?;
         if changes_asked(&orders) {
-            write!(text, "# If T{by} aborts, `{reply}` could be wrong")?;
+            write!(text, "If T{by} aborts, `{reply}` could be wrong")?;
         } else {
             write!(
                 text,
-                "# If T{tx} commits first, T{by}'s `{told}` could be wrong"
+                "If T{tx} commits first, T{by}'s `{told}` could be wrong"
             )?;
         }
     }
@@ -88,7 +88,7 @@ fn push_block(
 // Appends which transaction waits for which, where a transaction is in a cycle of waits.
 fn push_cycle(text: &mut String, state: &ReplayedState, tx: TxId) -> Result<(), AllocError> {
     let mut line = String::new(state.alloc);
-    let mut lead = "# Deadlock: ";
+    let mut lead = "Deadlock: ";
     let mut last = tx;
     for _ in 0..MOST {
         let Some(by) = state.tx(last).and_then(|one| one.blocked_by) else {
@@ -115,10 +115,7 @@ fn push_wait(
     by: TxId,
 ) -> Result<(), AllocError> {
     let (TxId(tx), PageNo(page), TxId(holder)) = (tx, page, by);
-    write!(
-        text,
-        "# T{tx} needs page {page}, which T{holder} has locked"
-    )?;
+    write!(text, "T{tx} needs page {page}, which T{holder} has locked")?;
     if let Some(holder) = state.tx(by) {
         let standing = holder.held.get(..holder.standing).unwrap_or(&[]);
         if let Some(op) = holder.pending {

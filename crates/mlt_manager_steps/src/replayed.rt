@@ -1,13 +1,17 @@
 //! What is known behind the events of a run: what each open transaction did, what is pending, and the base to which the history
 //! leads.
 
+ghost use Rattle.std.specs.Prelude.{◌≡◌, ℕ, List, ◌++◌, OnOk};
+ghost use Rattle.std.specs.String.{string_bytes};
+ghost use Rattle.mlt_manager_steps.specs.Steps.{explained_lines};
+
 use crate::reasons::push_reasons;
 use mlt_event::{Answer, Event, Told};
 use mlt_object_base::{Base, take_back};
 use mlt_object_kinds::{Account, Counter, Done, Element, Kind, ObjOp, ObjReply};
 use mlt_trace::{KeptItem, TraceItem};
 use mlt_types::{Refusal, TxId};
-use std::alloc::Global;
+use std::alloc::{AllocError, Global};
 use std::collections::BTreeMap;
 
 /// An open transaction.
@@ -56,14 +60,18 @@ impl ReplayedState {
         event: &Event,
         told: &Told,
         items: &[KeptItem],
-    ) -> Result<(), Refusal> {
+    ) -> Result<(), Refusal>
+        ensures text { OnOk result ((reasons : List ℕ) × (string_bytes text.new
+            ≡ string_bytes text.old ++ explained_lines (told.now, reasons))) }
+    {
         for place in self.count..items.len() {
             self.take(&items[place].get())?;
         }
         self.count = items.len();
         self.note(event, told);
-        writeln!(text, "{told}")?;
-        Ok(push_reasons(text, self, event, told)?)
+        let mut reasons = String::new(self.alloc);
+        push_reasons(&mut reasons, self, event, told)?;
+        Ok(push_explained(text, told, reasons.as_str())?)
     }
 
     // One more item of the history.
@@ -139,4 +147,16 @@ impl ReplayedState {
             ObjOp::Size(set) => ObjReply::Is(base.size(set)),
         }
     }
+}
+
+// Appends the line of what an event was told, and behind it the lines of its reasons, each as a comment.
+fn push_explained(text: &mut String, told: &Told, reasons: &str) -> Result<(), AllocError>
+    ensures text { OnOk result (string_bytes text.new
+        ≡ string_bytes text.old ++ explained_lines (told.now, reasons.now)) }
+{
+    writeln!(text, "{told}")?;
+    for line in reasons.lines() {
+        writeln!(text, "# {line}")?;
+    }
+    Ok(())
 }

@@ -1,21 +1,28 @@
-use Rattle.std.proofs.Common.{◌∷◌, ◌++◌, ◌∙◌, [], refl}
+use Rattle.std.proofs.Common.{◌∷◌, ◌++◌, ◌∙◌, [], refl, string_bytes, sym}
 use Rattle.mlt_manager.proofs.Playing.{all_played, played_on}
+use Rattle.mlt_manager_steps.proofs.StepsTexts.{explained_on, on_ok}
 use Rattle.mlt_manager_steps.proofs.playing.play_explained.Goals as goal
 
 pub loop-event-init : goal.loop-event-init
 loop-event-init g c = (
-  ([], record { opening = c.in_ok-manager.manager; is_new = c.in_ok-manager.ensures.opening; run = refl }),
+  (
+    [],
+    record { opening = c.in_ok-manager.manager; is_new = c.in_ok-manager.ensures.opening; run = refl },
+    record { explained = []; told = refl; written = c.new-text.ensures.bytes },
+  ),
   c.in_ok-manager.ensures.opening.handed,
 )
 
 pub loop-event-preserved : goal.loop-event-preserved
 loop-event-preserved g c =
     let so_far = c.loop-event.invariant.0 in
-    let tolds = so_far.0 ++ c.act-told.result ∷ [] in (
+    let tolds = so_far.0 ++ c.act-told.result ∷ [] in
+    let added = on_ok c.explain-explained.result (sym c.is_err.ensures.value ∙ c.if-is_err.false) c.explain-explained.ensures.text in (
       (
         tolds,
         played_on g.P.Pseudo.bits_of c.args.limits c.args.pseudo c.args.events.now c.loop-event.event-index so_far.0 tolds c.loop-event.manager c.act-told.new.self c.event-item.result c.act-told.result
             c.loop-event-test.true c.event-item.is refl so_far.1 c.act-told.ensures.meets,
+        explained_on so_far.0 tolds c.act-told.result (string_bytes c.loop-event.text) (string_bytes c.explain-explained.new.text) added.0 refl added.1 so_far.2,
       ),
       c.act-told.ensures.handed ∙ c.loop-event.invariant.1,
     )
@@ -26,5 +33,5 @@ returns-clause-plays g c =
     record {
       tolds = so_far.0;
       played = all_played g.P.Pseudo.bits_of c.args.limits c.args.pseudo c.args.events.now c.loop-event.event-index so_far.0 c.loop-event.manager c.loop-event-test.false so_far.1 c.keeps_its_promises.ensures;
-      told = tt;
+      told = so_far.2;
     }
