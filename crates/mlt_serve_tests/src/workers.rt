@@ -85,6 +85,57 @@ fn two_workers_at_once(rt: HostRuntime) -> Result<(), Fail> {
     same_at(&"two-workers-at-once", &text.as_slice(), &SECOND_FIRST)
 }
 
+/// Holds client 1 after its third Going, where its bucket is written and locked, until client 2 was told Waiting. Client 2 begins
+/// once client 1 was told three Goings, and waits until that one was told Committed.
+#[derive(Drop)]
+struct SecondWaits {
+    steps: AtomicU64,
+    waits: AtomicU64,
+    commit: AtomicU64,
+}
+
+impl Gate for SecondWaits {
+    fn begin(&self, client: u32) {
+        if client == 2 {
+            wait_for(&self.steps, 3, MOST_TURNS);
+        }
+    }
+
+    fn pause(&self, client: u32, told: &Told) {
+        match told {
+            Told::Answered(Answer::Going) if client == 1 => {
+                if self.steps.fetch_add(1, Ordering::SeqCst) == 2 {
+                    wait_for(&self.waits, 1, MOST_TURNS);
+                }
+            }
+            Told::Answered(Answer::Waiting { .. }) if client == 2 => {
+                self.waits.fetch_add(1, Ordering::SeqCst);
+                wait_for(&self.commit, 1, MOST_TURNS);
+            }
+            Told::Committed(number) if client == 1 => self.commit.store(*number, Ordering::SeqCst),
+            _ => (),
+        }
+    }
+}
+
+const ONE_BUCKET: &[u8] = b"begin 1\nup 7 1\ncommit\nbegin 2\nup 8 1\ncommit\n";
+
+const BOTH_COUNTED: &[u8] =
+    b"client 1 script 1\ndone\ncommitted 1\nclient 2 script 1\ndone\ncommitted 2\ncounter 7 1\ncounter 8 1\n";
+
+// A desk that made all steps of an operation in one hold of the lock would leave nothing for client 2 to wait for.
+#[test]
+fn page_steps_side_by_side(rt: HostRuntime) -> Result<(), Fail> {
+    let gate = SecondWaits {
+        steps: AtomicU64::new(0),
+        waits: AtomicU64::new(0),
+        commit: AtomicU64::new(0),
+    };
+    let text = text_of(&rt, rt.alloc(), ONE_BUCKET, 2, 10_000, &gate)?;
+    let found = (gate.waits.load(Ordering::SeqCst), text.as_slice());
+    same_at(&"page-steps-side-by-side", &found, &(1, BOTH_COUNTED))
+}
+
 // How often a reader looks whether the other one has made its step too, some milliseconds in all. Where that one yields it looks in
 // vain.
 const READER_TURNS: u32 = 200_000;
