@@ -14,13 +14,15 @@ use std::sync::atomic::{AtomicU64, Ordering};
 use std::test::Fail;
 use std::thread::Threads;
 
-// What is written of these scripts by that many workers, with that many tries for each script.
+// How many tries each script has, as many as the program gives by default.
+const TRIES: u64 = 10_000;
+
+// What is written of these scripts by that many workers.
 fn text_of<T: Threads + Wait + Sync, G: Gate + Sync>(
     rt: &T,
     alloc: Global,
     scripts: &[u8],
     workers: usize,
-    tries: u64,
     gate: &G,
 ) -> Result<Vec<u8>, Refusal>
     requires some { 0 < workers }
@@ -31,7 +33,7 @@ fn text_of<T: Threads + Wait + Sync, G: Gate + Sync>(
     let options = RunOptions {
         limits: Limits::program(),
         workers,
-        tries,
+        tries: TRIES,
         first: 0,
     };
     let loaded = Vec::new(alloc);
@@ -81,7 +83,7 @@ fn two_workers_at_once(rt: HostRuntime) -> Result<(), Fail> {
     let gate = SecondCommits {
         commit: AtomicU64::new(0),
     };
-    let text = text_of(&rt, rt.alloc(), TWO_CLIENTS, 2, 10_000, &gate)?;
+    let text = text_of(&rt, rt.alloc(), TWO_CLIENTS, 2, &gate)?;
     same_at(&"two-workers-at-once", &text.as_slice(), &SECOND_FIRST)
 }
 
@@ -131,13 +133,12 @@ fn page_steps_side_by_side(rt: HostRuntime) -> Result<(), Fail> {
         waits: AtomicU64::new(0),
         commit: AtomicU64::new(0),
     };
-    let text = text_of(&rt, rt.alloc(), ONE_BUCKET, 2, 10_000, &gate)?;
+    let text = text_of(&rt, rt.alloc(), ONE_BUCKET, 2, &gate)?;
     let found = (gate.waits.load(Ordering::SeqCst), text.as_slice());
     same_at(&"page-steps-side-by-side", &found, &(1, BOTH_COUNTED))
 }
 
-// How often a reader looks whether the other one has made its step too, some milliseconds in all. Where that one yields it looks in
-// vain.
+// How often a reader looks whether the other one has made its step too, some milliseconds in all.
 const READER_TURNS: u32 = 200_000;
 
 /// Clients 1 and 2 read step by step in turn, so that one of them always holds the header page. Client 3 begins once both
@@ -193,16 +194,19 @@ fn readers_and_nine(alloc: Global) -> Result<Vec<u8>, Refusal> {
     Ok(scripts)
 }
 
-// The ninth account needs the header page alone, which one of two readers always holds. With thirty tries it gets through, since the
-// readers yield to it after eight.
+// The ninth account needs the header page alone, which one of two readers always holds.
 #[test]
-fn a_doubling_insert_has_precedence(rt: HostRuntime) -> Result<(), Fail> {
+fn a_doubling_insert_gets_through(rt: HostRuntime) -> Result<(), Fail> {
     let scripts = readers_and_nine(rt.alloc())?;
     let gate = ReadersPassPageOn {
         first: AtomicU64::new(0),
         second: AtomicU64::new(0),
     };
-    let text = text_of(&rt, rt.alloc(), &scripts, 3, 30, &gate)?;
+    let text = text_of(&rt, rt.alloc(), &scripts, 3, &gate)?;
     let front = text.len().saturating_sub(OPENED_ALL.len());
-    same_at(&"precedence", &text.get(front..), &Some(OPENED_ALL))
+    same_at(
+        &"a-doubling-insert-gets-through",
+        &text.get(front..),
+        &Some(OPENED_ALL),
+    )
 }
