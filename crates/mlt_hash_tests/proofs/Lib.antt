@@ -1,1 +1,1 @@
-mod FewLocks
+mod SmallNumbers

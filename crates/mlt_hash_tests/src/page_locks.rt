@@ -1,7 +1,7 @@
 //! Grants on one page.
 
-ghost use Rattle.std.specs.Prelude.{◌≡◌};
-ghost use Rattle.mlt_page_locks.specs.LockTables.{HasAtMost};
+ghost use Rattle.std.specs.Prelude.{◌≡◌, ◌↔◌, IsTrue};
+ghost use Rattle.mlt_hash_tests.specs.Desks.{IsOfSmallNumbers, IsSmall};
 
 use mlt_page_locks::{Grant, PageLocks};
 use mlt_test_tools::same_at;
@@ -10,30 +10,39 @@ use std::alloc::Global;
 use std::process::Abort;
 use std::test::Fail;
 
-/// Page locks with room for 64 transactions, and how often one was asked for.
+/// Locks of transactions and on pages of small numbers, with room for 64 transactions.
 #[derive(Drop)]
-struct PageDesk {
+pub struct PageDesk {
     locks: PageLocks,
-    asked: u32,
-    ghost few: { HasAtMost asked locks },
+    ghost small: { IsOfSmallNumbers locks },
     ghost room: { locks.max_open ≡ 64 },
 }
 
 impl PageDesk {
-    fn ask(&mut self, rt: &impl Abort, tx: u64, page: u32, mode: Mode) -> Grant {
-        assert!(rt; self.asked < 64);
-        self.asked += 1;
+    /// The answer to a request for a lock.
+    pub fn ask(&mut self, rt: &impl Abort, tx: u64, page: u32, mode: Mode) -> Grant {
+        assert!(rt; is_small(tx));
+        assert!(rt; is_small(u64::from(page)));
         self.locks.ask(TxId(tx), PageNo(page), mode)
     }
 
-    fn release_all(&mut self, tx: u64) {
+    /// Takes all locks of a transaction away.
+    pub fn release_all(&mut self, tx: u64) {
         self.locks.release_all(TxId(tx));
     }
 }
 
-fn new_desk(alloc: Global) -> Result<PageDesk, Refusal> {
+// Whether a number is below 16, or at most 15 above 4,096: such a page shares its row of masks with one below 16.
+fn is_small(number: u64) -> bool
+    ensures { IsTrue result ↔ IsSmall number }
+{
+    number < 16 || (4_096 <= number && number < 4_096 + 16)
+}
+
+/// No locks.
+pub fn new_desk(alloc: Global) -> Result<PageDesk, Refusal> {
     let locks = PageLocks::new(alloc, &Limits::program())?;
-    Ok(PageDesk { locks, asked: 0 })
+    Ok(PageDesk { locks })
 }
 
 // Requests for page 9, each with the transaction that it waits for; where there is no mode, the transaction is closed.
