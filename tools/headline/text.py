@@ -180,11 +180,11 @@ TWO: list[Section] = [
             the sessions. [Another one](../crates/mlt_serve_session/src/sessions.rt) says that a session writes what its outcomes
             have. Of `serve --endless` [less is proved](THEOREM.md#what-no-contract-says).""", [
                 Block("mlt_work/src/running.rt", "run():ran,history,played"),
-                Block("mlt_work/specs/Runs.antt", "HasRunAll:outcomes,agrees"),
+                Block("mlt_work/specs/Runs.antt", "HasRunAll:outcomes,agrees AreRunWith"),
                 Block("mlt_serve/src/serving.rt", "serve_on():history,played,outcomes,clients,order"),
                 Block("mlt_manager/src/manager.rt", "Manager.history():some,none"),
                 Block("mlt_script_serial/src/outcome.rt", "Outcome End"),
-                Block("mlt_work_clients/specs/Places.antt", "AreAllOutcomes AreClientOutcomes"),
+                Block("mlt_work_clients/specs/Places.antt", "AreAllOutcomes"),
                 Block("mlt_script_serial/specs/Clients.antt", "AreOutcomes IsOutcome"),
                 Block("mlt_script_serial/specs/DeskRuns.antt", "HasEndedAs"),
             ]),

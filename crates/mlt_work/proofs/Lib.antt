@@ -1,2 +1,5 @@
+pub mod GivenTries
 pub mod Refusals
+pub mod SameOutcomes
 pub mod Texts
+pub mod Viewing

@@ -68,8 +68,8 @@ pub fn run_scripts<
     // what is written is the text of what became of the loaded scripts and those read, which agrees with what the manager has
     // done
     ensures text { IfOk result (λ manager. (input text : List ℕ)
-        × IsRunOf options.now.limits pseudo (scripts_of_clients loaded.items) (R.remaining reader.old)
-        (R.remaining reader.new) input text manager
+        × IsRunOf P.bits_of options.now pseudo (scripts_of_clients loaded.items)
+        (R.remaining reader.old) (R.remaining reader.new) input text manager
         × Appends (W.contents writer.old) (W.contents writer.new) text) }
     // all of the history is there
     ensures history { IfOk result (λ manager. manager.shared.history.handed ≡ []) }
@@ -80,7 +80,7 @@ pub fn run_scripts<
     // where it fails, nothing was written, or a prefix of such a text; and too long an input is not read on
     ensures failure { FailsCleanly (R.remaining reader.old) (R.remaining reader.new)
         (W.contents writer.old) (W.contents writer.new) result
-        (IsRunText options.now.limits pseudo (scripts_of_clients loaded.items)) }
+        (IsRunText P.bits_of options.now pseudo (scripts_of_clients loaded.items)) }
     ensures refusals { IfErr result
         (λ refusal. IsWant refusal ⊎ (refusal ≡ Refusal.Audit) ⊎ IsScriptFault refusal) }
 {

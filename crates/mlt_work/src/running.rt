@@ -4,8 +4,9 @@ ghost use Rattle.std.specs.Prelude.{◌≡◌, ◌≤◌, ◌<◌, ◌⊎◌, []
 ghost use Rattle.mlt_work_log.specs.Seats.{id_of};
 ghost use Rattle.mlt_work_desk.specs.Makings.{making_by};
 ghost use Rattle.mlt_work_desk.specs.Playing.{IsPlayed};
+ghost use Rattle.mlt_work_desk.specs.declared.tries.Tries.TheVariants.{PerScript};
 ghost use Rattle.mlt_work_clients.specs.Places.{scripts_of_clients};
-ghost use Rattle.mlt_work.specs.Runs.{HasRunAll};
+ghost use Rattle.mlt_work.specs.Runs.{AreRunWith, AreSame, HasRunAll};
 
 use crate::client_order::ClientOrder;
 use crate::reporting::report_of;
@@ -14,7 +15,7 @@ use mlt_manager::Manager;
 use mlt_script::Script;
 use mlt_script_serial::Report;
 use mlt_types::{Limits, Pseudo, Refusal};
-use mlt_work_clients::{ClientCounter, collect, empty_slots, jobs_for};
+use mlt_work_clients::{ClientCounter, ClientOutcomes, collect, empty_slots, jobs_for};
 use mlt_work_desk::{BlankRecords, Gate, LockedState, MadeWith, Shared};
 use std::alloc::Global;
 use std::marker::Brand;
@@ -35,6 +36,7 @@ pub struct RunOptions {
 }
 
 fn run_with<
+    O: ClientOutcomes,
     L: MadeWith<P> + Send + Sync,
     P: Pseudo + Drop + Send,
     R: Threads + Wait + Sync,
@@ -56,8 +58,10 @@ fn run_with<
     requires nine { records.blank.parts ≡ 9 }
     requires some { 0 < options.now.workers }
     requires most { options.now.workers ≤ 8 }
+    requires outcomes { AreSame O.are_outcomes
+        (AreRunWith P.bits_of (PerScript options.now.tries)) }
     ensures ran { IfOk result (λ got.
-        HasRunAll (scripts_of_clients clients.now) options.now.limits pseudo got.0 got.1
+        HasRunAll P.bits_of (scripts_of_clients clients.now) options.now pseudo got.0 got.1
         × (got.1.shared.history.handed ≡ [])) }
     ensures played { IfOk result (λ got. IsPlayed P.bits_of got.1) }
     ensures refusal { IfErr result
@@ -92,7 +96,7 @@ fn run_with<
             return Err(Refusal::OutOfMemory);
         }
     };
-    let (outcomes, events) = match collect::<Brand, L>(
+    let (outcomes, events) = match collect::<O, L>(
         alloc, counter, clients, first, &mut all, slots, results,
     ) {
         Ok(got) => got,
@@ -129,10 +133,10 @@ pub fn run<P: Pseudo + Drop + Send, R: Threads + Wait + Sync, G: Gate + Sync>(
 ) -> Result<(Report, Manager<P>), Refusal>
     requires some { 0 < options.now.workers }
     requires most { options.now.workers ≤ 8 }
-    // an outcome for each script, which agrees with what the manager has done, and the base of the committed ones; and the
-    // manager has these limits and this function from keys to pseudokeys
-    ensures ran { IfOk result
-        (λ got. HasRunAll (scripts_of_clients clients.now) options.now.limits pseudo got.0 got.1) }
+    // an outcome for each script, from a desk with so many tries for each, which agrees with what the manager has done, and the
+    // base of the committed ones; and the manager has these limits and this function from keys to pseudokeys
+    ensures ran { IfOk result (λ got.
+        HasRunAll P.bits_of (scripts_of_clients clients.now) options.now pseudo got.0 got.1) }
     // all of the history is there
     ensures history { IfOk result (λ got. got.1.shared.history.handed ≡ []) }
     // it is one to which events lead from a new one
@@ -141,5 +145,5 @@ pub fn run<P: Pseudo + Drop + Send, R: Threads + Wait + Sync, G: Gate + Sync>(
         (λ refusal. (refusal ≡ Refusal.OutOfMemory) ⊎ (refusal ≡ Refusal.Audit)) }
 {
     let records = BlankRecords::new(alloc, 9)?;
-    run_with::<Brand, P, R, G>(rt, alloc, records, pseudo, clients, options, gate)
+    run_with::<Brand, Brand, P, R, G>(rt, alloc, records, pseudo, clients, options, gate)
 }

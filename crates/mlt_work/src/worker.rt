@@ -2,8 +2,10 @@
 
 ghost use Rattle.std.specs.Prelude.{◌≡◌, All, IfOk, [], length, vec_len};
 ghost use Rattle.mlt_script_serial.specs.Clients.{AreOutcomes, AreRunsAt};
-ghost use Rattle.mlt_work_clients.specs.Places.{AreClientOutcomes, scripts_of_clients};
+ghost use Rattle.mlt_work_desk.specs.declared.tries.Tries.TheVariants.{PerScript};
+ghost use Rattle.mlt_work_clients.specs.Places.{scripts_of_clients};
 ghost use Rattle.mlt_work_clients.specs.Workers.{HasWorked, IsFresh};
+ghost use Rattle.mlt_work.specs.Runs.{AreRunWith};
 
 use crate::client_order::ClientOrder;
 use mlt_script::Script;
@@ -52,8 +54,8 @@ fn run_claimed<P: Pseudo, L: MadeWith<P>, R: Wait, G: Gate>(
 ) -> bool
     requires fresh { IsFresh counter.now (length clients.now) claim_handle.old }
     requires empty { runs.old.items ≡ [] }
-    ensures { HasWorked AreClientOutcomes counter.now (scripts_of_clients clients.now)
-        claim_handle.new runs.new.items result }
+    ensures { HasWorked (AreRunWith P.bits_of desk.old.tries.given) counter.now
+        (scripts_of_clients clients.now) claim_handle.new runs.new.items result }
 {
     'claims: for _ in rt.forever() {
         let number = counter.draw(claim_handle);
@@ -96,9 +98,9 @@ fn work<P: Pseudo, L: MadeWith<P>, R: Wait, G: Gate>(
     job: WorkerJob<L>,
 ) -> Worked<L>
     requires { IsFresh context.now.counter.now (length context.now.clients.now) job.claim_handle }
-    ensures { HasWorked AreClientOutcomes context.now.counter.now
-        (scripts_of_clients context.now.clients.now) result.claim_handle result.runs.items
-        result.failed }
+    ensures { HasWorked (AreRunWith P.bits_of (PerScript context.now.tries))
+        context.now.counter.now (scripts_of_clients context.now.clients.now)
+        result.claim_handle result.runs.items result.failed }
 {
     let WorkerJob {
         mut claim_handle,
@@ -149,9 +151,10 @@ pub(crate) fn work_all<
     requires { All (λ job. IsFresh context.now.counter.now
         (length context.now.clients.now) job.claim_handle) jobs.items }
     ensures len { IfOk result (λ results. vec_len results ≡ vec_len jobs) }
-    ensures each { IfOk result (λ results. All (λ worked. HasWorked AreClientOutcomes
-        context.now.counter.now (scripts_of_clients context.now.clients.now)
-        worked.claim_handle worked.runs.items worked.failed) results.items) }
+    ensures each { IfOk result (λ results. All (λ worked. HasWorked
+        (AreRunWith P.bits_of (PerScript context.now.tries)) context.now.counter.now
+        (scripts_of_clients context.now.clients.now) worked.claim_handle worked.runs.items
+        worked.failed) results.items) }
 {
     thread::map_vec(rt, jobs, &|job| { work(rt, alloc, context, job) })
 }

@@ -1,9 +1,8 @@
 -- The runs of clients, by the places of the clients in their list.
-use Rattle.std.specs.Prelude.{◌≡◌, ℕ, ◌<◌, List, [], ◌∷◌, ◌++◌, All, length, map, slice_index_or, Option, None, IfSome, IsSome}
+use Rattle.std.specs.Prelude.{◌≡◌, ℕ, ◌<◌, List, [], ◌∷◌, ◌++◌, length, map, slice_index_or, Option, None, IfSome, IsSome}
 use Rattle.std.specs.Global.{Vec}
 use Rattle.mlt_script.specs.{declared.script.Script.Script, Scripts.ScriptForm}
-use Rattle.mlt_types.specs.declared.refusal.Refusal.{Refusal}
-use Rattle.mlt_script_serial.specs.{declared.outcome.End.End, declared.outcome.End.TheVariants.Refused, declared.outcome.Outcome.Outcome, Clients.AreOutcomes}
+use Rattle.mlt_script_serial.specs.declared.outcome.Outcome.{Outcome}
 use Rattle.mlt_work_clients.specs.{Claims.times, ClientOutcomes.OutcomeRelation, declared.forms.ClientRun.ClientRun}
 
 -- the scripts of each client
@@ -13,26 +12,6 @@ scripts_of_clients clients = map (λ client. client.items) clients
 -- the place of the client of a run
 abbrev pub place_of : ClientRun → ℕ
 place_of run = run.place
-
--- what a script may be refused with
-abbrev pub IsScriptRefusal : Refusal → Type 0
-IsScriptRefusal Refusal.OutOfMemory = Unit {0}
-IsScriptRefusal Refusal.NoRoom = Unit {0}
-IsScriptRefusal Refusal.TooManyOpen = Unit {0}
-IsScriptRefusal Refusal.LogFull = Unit {0}
-IsScriptRefusal Refusal.IdsSpent = Unit {0}
-IsScriptRefusal Refusal.GaveUp = Unit {0}
-IsScriptRefusal other = ⊥
-
--- where a script is refused, it is so
-abbrev pub IsScriptEnd : End → Type 0
-IsScriptEnd (Refused reason) = IsScriptRefusal reason
-IsScriptEnd other = Unit {0}
-
--- an outcome for each script of a client, in order
-abbrev pub AreClientOutcomes : List ScriptForm → List Outcome → Type 0
-AreClientOutcomes scripts outcomes =
-    AreOutcomes 0 scripts outcomes × All (λ outcome. IsScriptEnd outcome.end) outcomes
 
 -- the run has outcomes that the scripts of the client at its place may have
 abbrev pub IsClientRun : OutcomeRelation → List (List ScriptForm) → ClientRun → Type 0

@@ -9,7 +9,7 @@ pub returns-in-Ok-clause-text : goal.returns-in-Ok-clause-text
 returns-in-Ok-clause-text g c =
     let input = c.in_ok-input.input.items in
     let report = c.in_ok-report.report in
-    let text = run_text c.args.options.now.limits c.args.pseudo c.as_slice.result.now input c.as_slice-2.result.now c.in_ok-parts.parts.items c.args.loaded.items c.in_ok-scripts.scripts.items report c.in_ok-report.manager
+    let text = run_text g.P.Pseudo.bits_of c.args.options.now c.args.pseudo c.as_slice.result.now input c.as_slice-2.result.now c.in_ok-parts.parts.items c.args.loaded.items c.in_ok-scripts.scripts.items report c.in_ok-report.manager
     c.as_slice.ensures.value (c.as_slice-2.ensures.value ∙ c.in_ok-clients.ensures) c.in_ok-scripts.ensures.spelled c.in_ok-parts.ensures.parts c.in_ok-report.ensures.ran in
     (input, report_text Run report.outcomes report.base, (c.in_ok-input.ensures.ok, text), c.in-Ok.ensures.ok)
 
@@ -37,7 +37,7 @@ pub returns-clause-failure : goal.returns-clause-failure
 returns-clause-failure g c =
     let input = c.in_ok-input.input.items in
     let report = c.in_ok-report.report in
-    let text = run_text c.args.options.now.limits c.args.pseudo c.as_slice.result.now input c.as_slice-2.result.now c.in_ok-parts.parts.items c.args.loaded.items c.in_ok-scripts.scripts.items report c.in_ok-report.manager
+    let text = run_text g.P.Pseudo.bits_of c.args.options.now c.args.pseudo c.as_slice.result.now input c.as_slice-2.result.now c.in_ok-parts.parts.items c.args.loaded.items c.in_ok-scripts.scripts.items report c.in_ok-report.manager
     c.as_slice.ensures.value (c.as_slice-2.ensures.value ∙ c.in_ok-clients.ensures) c.in_ok-scripts.ensures.spelled c.in_ok-parts.ensures.parts c.in_ok-report.ensures.ran in
     unfinished _ _ _ _ _ c.in-Err.refusal input (report_text Run report.outcomes report.base) c.in_ok-report.manager c.in_ok-input.ensures.ok text c.in-Err.ensures.refusal
     (λ memory. c.in-Err.ensures.memory (ap Err memory)) (λ io. c.in-Err.ensures.io (ap Err io))

@@ -1,9 +1,10 @@
-use Rattle.std.proofs.Common.{◌≡◌, ℕ, ◌<◌, ◌∷◌, [], List, length, map, get_or, sym, ap, ◌∙◌, subst, arith, Vec, Global}
+use Rattle.std.proofs.Common.{◌≡◌, ℕ, ◌<◌, ◌∷◌, [], List, length, map, get_or, sym, ap, ◌∙◌, subst, arith, Vec, Global, rules}
 use Rattle.std.proofs.lemmas.List.{map-append, get_or-map, length-map, Elements.All-push}
-use Rattle.mlt_work_clients.{specs.Claims.view, specs.Seats.view_of, specs.declared.forms.ClientRun.ClientRun, specs.Places.AreClientOutcomes, specs.Places.IsClientRun, specs.Places.place_of, specs.Places.scripts_of_clients, proofs.Placing.draws_client}
+use Rattle.mlt_work_clients.{specs.Claims.view, specs.Seats.view_of, specs.declared.forms.ClientRun.ClientRun, specs.Places.IsClientRun, specs.Places.place_of, specs.Places.scripts_of_clients, proofs.Placing.draws_client}
 use Rattle.mlt_script.specs.{declared.script.Script.Script, Scripts.ScriptForm}
-use Rattle.mlt_work_desk.specs.Holds.{desk_view}
-use Rattle.mlt_work.proofs.Refusals.{runs_end}
+use Rattle.mlt_work_desk.specs.{Holds.Answers, Views.desk_view}
+use Rattle.mlt_work.specs.Runs.{AreRunWith}
+use Rattle.mlt_work.proofs.{GivenTries.runs_keep, Refusals.runs_end, Viewing.are_runs}
 use Rattle.mlt_work.proofs.worker.run_claimed.Goals as goal
 
 pub claims-preserved : goal.claims-preserved
@@ -18,11 +19,21 @@ claims-preserved g c =
     let run : ClientRun = record { place = number; outcomes = c.in-Ok.outcomes } in
     let here : get_or lists number [] ≡ c.as_slice-scripts.result.now = get_or-map items clients number client [] small ∙ ap items (sym c.index-clients-place.is) ∙ sym c.as_slice-scripts.ensures.value in
     let long : length lists ≡ length clients = length-map clients items in
-    let ends = runs_end g.P.Pseudo.bits_of (λ d. desk_view d.snapshot d.tries) _ _ _ _ c.in-Ok.ensures.runs in
-    let one : IsClientRun AreClientOutcomes lists run = (omega arith, subst (λ (ss : List ScriptForm). AreClientOutcomes ss c.in-Ok.outcomes.items) (sym here) (c.in-Ok.ensures.outcomes, ends)) in
+    let bits_of = g.P.Pseudo.bits_of in
+    let runs = are_runs (λ d. desk_view d.snapshot d.tries d.share.amount) (Answers bits_of) _ _ _ _ c.in-Ok.ensures.runs in
+    let with : AreRunWith bits_of c.args.desk.now.tries.given (c.as_slice-scripts.result.now) c.in-Ok.outcomes.items = record {
+      outcomes_are = c.in-Ok.ensures.outcomes;
+      ends = runs_end bits_of _ _ _ _ runs;
+      before = _;
+      after = _;
+      given = search rules;
+      runs = runs;
+    } in
+    let one : IsClientRun (AreRunWith bits_of c.args.desk.now.tries.given) lists run = (omega arith, subst (λ (ss : List ScriptForm). AreRunWith bits_of c.args.desk.now.tries.given ss c.in-Ok.outcomes.items) (sym here) with) in
     rw (c.push_reserved.ensures.items, c.reserve.ensures.items) record {
       seat = c.draw-number.ensures.beside ∙ l.invariant.seat;
       view = draws_client (view_of l.claim_handle) (view_of c.draw-number.new.claim_handle) (length clients) number (map place_of l.runs.items) l.invariant.view c.draw-number.ensures.drawn small
           ∙ ap (λ (ns : List ℕ). view 1 1 (length clients) ns) (sym (map-append place_of l.runs.items (run ∷ [])));
-      each = All-push (IsClientRun AreClientOutcomes lists) l.runs.items run l.invariant.each one;
+      given = runs_keep bits_of _ _ _ _ runs ∙ search rules;
+      each = All-push (IsClientRun (AreRunWith bits_of c.args.desk.now.tries.given) lists) l.runs.items run l.invariant.each one;
     }
