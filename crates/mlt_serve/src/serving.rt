@@ -21,7 +21,7 @@ use crate::session_thread::SessionThread;
 use crate::threads_beside::Ran;
 use mlt_manager::Manager;
 use mlt_script_serial::{Outcome, Outcomes};
-use mlt_serve_connections::{AdmissionQueue, SpinPolicy};
+use mlt_serve_connections::{SpinPolicy, session_queue};
 use mlt_serve_seats::{Notes, Seats};
 use mlt_serve_session::Receipts;
 use mlt_types::{Pseudo, Refusal};
@@ -122,7 +122,7 @@ where
     let shared = Shared::new(log, state);
     let service = Service {
         shared: &shared,
-        admission_queue: &AdmissionQueue::default(),
+        admission_queue: &session_queue(),
         spin_policy: &SpinPolicy::new(rt),
         options,
         door: &Door::new(listener),

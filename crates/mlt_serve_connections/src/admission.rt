@@ -1,32 +1,31 @@
 //! The way of one session through the admission queue, and what it waits for before it begins a transaction.
 
-use crate::admission_queue::{AdmissionPass, AdmissionQueue};
 use crate::lines::is_one_line;
 use crate::socket::Socket;
-use crate::tuning::ANSWERS_PER_TURN;
+use crate::tuning::{ANSWERS_PER_TURN, MOST_ADMITTED, MOST_BYPASSING};
 use mlt_event::{Answer, Told};
 use mlt_object_kinds::ObjOp;
 use mlt_serve_seats::Sitting;
-use mlt_work_waits::{Gate, Notice, is_to_wait};
-use std::cell::Cell;
+use mlt_work_admission::{AdmissionQueue, AdmissionRules, AfterAnswer, PassHolder};
+use mlt_work_waits::{Gate, Notice};
 use std::io;
 use std::io::{Read, Write};
 use std::sync::Wait;
 use std::time::Clock;
 
+/// The queue of the sessions of a server.
+pub fn session_queue() -> AdmissionQueue {
+    AdmissionQueue::new(AdmissionRules {
+        most_admitted: MOST_ADMITTED,
+        most_bypassing: MOST_BYPASSING,
+        answers_per_turn: ANSWERS_PER_TURN,
+    })
+}
+
 /// The way of a session. It goes to work with the lines that it has read, and leaves before it writes their answers, before it reads on,
-/// and where an operation is to wait, which so keeps nobody from work. Once awake it goes on outside, since it may have locks for which
-/// others wait.
+/// and where an operation is to wait.
 pub struct Admission<'a, R: Wait + Clock> {
-    rt: &'a R,
-    admission_queue: &'a AdmissionQueue,
-    /// None where it is outside.
-    pass: Cell<Option<AdmissionPass>>,
-    /// How many answers it has had since it went to work, but for those that its operation goes on.
-    answers: Cell<u32>,
-    /// Whether its last transaction gave up. Then it pauses outside before the next one: clients that try again at once would
-    /// else take from one another what they need, again and again. First tries never wait.
-    gave_up: Cell<bool>,
+    holder: PassHolder<'a, R>,
     /// Where others see what it does.
     sitting: Sitting<'a, R>,
 }
@@ -38,64 +37,29 @@ impl<'a, R: Wait + Clock> Admission<'a, R> {
         admission_queue: &'a AdmissionQueue,
         sitting: Sitting<'a, R>,
     ) -> Admission<'a, R> {
-        Admission {
-            rt,
-            admission_queue,
-            pass: Cell::new(None),
-            answers: Cell::new(0),
-            gave_up: Cell::new(false),
-            sitting,
-        }
+        let holder = PassHolder::new(rt, admission_queue);
+        Admission { holder, sitting }
     }
 
     /// The session ends.
     pub fn close(self) {
-        let Admission {
-            rt,
-            admission_queue,
-            pass,
-            answers: _,
-            gave_up: _,
-            sitting,
-        } = self;
-        if let Some(pass) = pass.into_inner() {
-            admission_queue.leave(rt, pass);
-        }
+        let Admission { holder, sitting } = self;
+        holder.close();
         sitting.show();
     }
 
     /// Leaves, if it is at work. What it has done until now it shows to others.
     fn leave(&self) {
-        self.take_pass(None);
+        self.holder.leave();
         self.sitting.show();
-    }
-
-    /// Has this pass from now on, and gives back the one that it had.
-    fn take_pass(&self, pass: Option<AdmissionPass>) {
-        if let Some(used) = self.pass.replace(pass) {
-            self.admission_queue.leave(self.rt, used);
-        }
-    }
-
-    /// Goes to work with what it has read.
-    fn enter(&self) {
-        self.answers.set(0);
-        self.take_pass(Some(self.admission_queue.enter(self.rt)));
-    }
-
-    /// Leaves, and goes to work again in its turn.
-    fn queue(&self) {
-        self.leave();
-        self.answers.set(0);
-        self.take_pass(Some(self.admission_queue.queue(self.rt)));
     }
 }
 
 impl<R: Wait + Clock> Gate for Admission<'_, R> {
     fn begin(&self, _client: u32) {
-        if self.gave_up.replace(false) {
+        if self.holder.is_to_pause() {
             self.leave();
-            self.admission_queue.pause(self.rt);
+            self.holder.pause();
         }
     }
 
@@ -132,17 +96,14 @@ impl<R: Wait + Clock> Admission<'_, R> {
     /// The event was told something else than that its operation goes on.
     #[inline(never)]
     fn pause_between(&self, told: &Told) {
-        self.answers.set(self.answers.get().saturating_add(1));
         self.sitting.note(told);
-        match told {
-            Told::Cancelled => self.gave_up.set(true),
-            Told::Committed(_) => self.gave_up.set(false),
-            _ => (),
-        }
-        if is_to_wait(told) {
-            self.leave();
-        } else if self.answers.get() >= ANSWERS_PER_TURN {
-            self.queue();
+        match self.holder.count(told) {
+            AfterAnswer::GoesOn => (),
+            AfterAnswer::Leaves => self.leave(),
+            AfterAnswer::Queues => {
+                self.leave();
+                self.holder.queue();
+            }
         }
     }
 }
@@ -167,7 +128,7 @@ impl<R: Wait + Clock> Read for Outside<'_, R> {
         let count = self.socket.read(buf)?;
         if count > 0 {
             self.admission.sitting.read(is_one_line(&buf[..count]));
-            self.admission.enter();
+            self.admission.holder.enter();
         }
         Ok(count)
     }

@@ -10,10 +10,6 @@ pub(crate) const MOST_BYPASSING: u64 = 1;
 /// four that stream did 0.5 to 0.75.
 pub(crate) const ANSWERS_PER_TURN: u32 = 16;
 
-/// For how many microseconds a session pauses before a restarted transaction, times the sessions that pause. By `retries`, 63
-/// clients.
-pub(crate) const RESTART_MICROSECONDS: u64 = 6_400;
-
 /// How many times a read looks for bytes before it sleeps, for some ten microseconds. By `connections`, 1 and 2 of them.
 pub(crate) const READ_SPINS: u32 = 50;
 

@@ -13,12 +13,10 @@ use std::sync::Wait;
 use std::sync::atomic::{AtomicU64, Ordering};
 use std::test::Fail;
 use std::thread::Threads;
+use std::time::Clock;
 
-// How many tries each script has, as many as the program gives by default.
-const TRIES: u64 = 10_000;
-
-// What is written of these scripts by that many workers.
-fn text_of<T: Threads + Wait + Sync, G: Gate + Sync>(
+// What is written of these scripts by that many workers, with that many tries for each script.
+fn text_of<T: Threads + Wait + Clock + Sync, G: Gate + Sync>(
     rt: &T,
     alloc: Global,
     scripts: &[u8],
@@ -33,7 +31,8 @@ fn text_of<T: Threads + Wait + Sync, G: Gate + Sync>(
     let options = RunOptions {
         limits: Limits::program(),
         workers,
-        tries: TRIES,
+        takes_turns: false,
+        tries,
         first: 0,
     };
     let loaded = Vec::new(alloc);

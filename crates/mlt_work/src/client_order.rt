@@ -22,13 +22,16 @@ impl ClientOrder {
         }
     }
 
+    /// Whether the client in this place, from 0, may have to wait for others.
+    pub(crate) fn may_wait(&self, place: u64) -> bool {
+        place.min(self.first) > 0
+    }
+
     /// Waits until the scripts of the client in this place, from 0, may be executed. The clients before it were claimed before.
     pub(crate) fn wait<R: Wait>(&self, rt: &R, place: u64) {
         let before = place.min(self.first);
-        if before > 0 {
-            let done = self.done.lock(rt);
-            let _done = self.condvar.wait_while(rt, done, |done| *done < before);
-        }
+        let done = self.done.lock(rt);
+        let _done = self.condvar.wait_while(rt, done, |done| *done < before);
     }
 
     /// The scripts of the client in this place were executed.

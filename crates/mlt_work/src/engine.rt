@@ -21,6 +21,7 @@ use std::io::{Read, Write};
 use std::mem;
 use std::sync::Wait;
 use std::thread::Threads;
+use std::time::Clock;
 
 /// These clients, with the loaded ones before them.
 ///
@@ -51,7 +52,7 @@ pub fn run_scripts<
     R: Read,
     W: Write,
     P: Pseudo + Drop + Send,
-    T: Threads + Wait + Sync,
+    T: Threads + Wait + Clock + Sync,
     G: Gate + Sync,
 >(
     rt: &T,

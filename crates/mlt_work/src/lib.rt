@@ -5,14 +5,14 @@
 //! through or are undone, and that Audit is never returned is only tested.
 #![tactic(auto)]
 
-mod begin_queue;
 mod client_order;
 mod engine;
 mod reporting;
 mod running;
 mod tuning;
 mod worker;
+mod worker_gate;
 
-pub use begin_queue::BeginQueue;
 pub use engine::run_scripts;
+pub use mlt_work_desk::NoGate;
 pub use running::{RunOptions, run};

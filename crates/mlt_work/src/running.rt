@@ -11,6 +11,7 @@ ghost use Rattle.mlt_work.specs.Runs.{AreRunWith, AreSame, HasRunAll};
 use crate::client_order::ClientOrder;
 use crate::reporting::report_of;
 use crate::worker::{RunContext, work_all};
+use crate::worker_gate::worker_queue;
 use mlt_manager::Manager;
 use mlt_script::Script;
 use mlt_script_serial::Report;
@@ -21,6 +22,7 @@ use std::alloc::Global;
 use std::marker::Brand;
 use std::sync::Wait;
 use std::thread::Threads;
+use std::time::Clock;
 
 /// How the scripts of all clients are run.
 #[derive(Clone, Copy)]
@@ -29,6 +31,8 @@ pub struct RunOptions {
     pub limits: Limits,
     /// How many workers run clients side by side, 1 to 8.
     pub workers: usize,
+    /// Whether workers take turns, so that one is at work at a time and transactions are interleaved. Else each goes on as it can.
+    pub takes_turns: bool,
     /// How often a script may be told to wait, or that it is blocked, 1 to 1,000,000. Then it is aborted.
     pub tries: u64,
     /// How many clients are the first ones: their scripts are executed one client after another, before those of all others.
@@ -39,7 +43,7 @@ fn run_with<
     O: ClientOutcomes,
     L: MadeWith<P> + Send + Sync,
     P: Pseudo + Drop + Send,
-    R: Threads + Wait + Sync,
+    R: Threads + Wait + Clock + Sync,
     G: Gate + Sync,
 >(
     rt: &R,
@@ -81,9 +85,11 @@ fn run_with<
     )?;
     let state = LockedState::new(alloc, options.limits, pseudo, book, writer)?;
     let shared = Shared::new(log, state);
+    let admission_queue = worker_queue();
     let context = RunContext {
         shared: &shared,
         gate,
+        admission_queue: options.takes_turns.then_some(&admission_queue),
         counter: &counter,
         clients,
         order: &ClientOrder::new(options.first),
@@ -123,7 +129,7 @@ fn run_with<
 /// # Errors
 /// `OutOfMemory`, where a growth was refused outside a script. `Audit`, where the outcomes do not agree with the manager's
 /// history. All threads are joined.
-pub fn run<P: Pseudo + Drop + Send, R: Threads + Wait + Sync, G: Gate + Sync>(
+pub fn run<P: Pseudo + Drop + Send, R: Threads + Wait + Clock + Sync, G: Gate + Sync>(
     rt: &R,
     alloc: Global,
     pseudo: P,

@@ -1,10 +1,11 @@
 //! What may be tuned. The group `workers` of `bench/run` shows what it does.
 
-/// How many microseconds the first of the queue sleeps before it looks whether a transaction is open.
-pub(crate) const NAP_MICROSECONDS: u64 = 200;
+/// How many workers are at work at a time. With two they wait for each other at the lock over the manager.
+pub(crate) const MOST_ADMITTED: u64 = 1;
 
-/// After how many naps it begins all the same: together a tenth part of a second.
-pub(crate) const MOST_NAPS: u32 = 512;
+/// How many workers bypass the queue at a time: none, so that each turn ends and begins in the queue.
+pub(crate) const MOST_BYPASSING: u64 = 0;
 
-/// How many times it looks whether none is open, with a pause of the processor after each look: some microseconds.
-pub(crate) const GAP_SPINS: u32 = 128;
+/// After how many answers the turn of a worker is over. It is a prime: where all transactions have the same number of answers, turns so
+/// end at each place in them.
+pub(crate) const ANSWERS_PER_TURN: u32 = 127;

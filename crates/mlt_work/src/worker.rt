@@ -8,24 +8,36 @@ ghost use Rattle.mlt_work_clients.specs.Workers.{HasWorked, IsFresh};
 ghost use Rattle.mlt_work.specs.Runs.{AreRunWith};
 
 use crate::client_order::ClientOrder;
+use crate::worker_gate::WorkerGate;
 use mlt_script::Script;
 use mlt_script_serial::{Desk, Outcome, run_client};
 use mlt_types::{Pseudo, Refusal};
+use mlt_work_admission::AdmissionQueue;
 use mlt_work_clients::{ClaimHandle, ClientCounter, ClientRun, Worked, WorkerJob};
 use mlt_work_desk::{Gate, LockDesk, MadeWith, Shared, Tries};
+use mlt_work_waits::Notice;
 use std::alloc::{AllocError, Global};
 use std::sync::Wait;
 use std::thread;
 use std::thread::Threads;
+use std::time::Clock;
 
-/// Runs the scripts of the client in this place in its order.
+/// The client of these scripts, 0 where there are none.
+fn client_of(scripts: &[Script]) -> u32 {
+    scripts
+        .first()
+        .map_or(0, |script| u32::from(script.client()))
+}
+
+/// Runs the scripts of the client in this place in its order. The gate is told where that may have to wait.
 ///
 /// # Errors
 /// As those of `run_client`.
-fn run_in_order<D: Desk, R: Wait>(
+fn run_in_order<D: Desk, R: Wait, G: Gate>(
     rt: &R,
     alloc: Global,
     desk: &mut D,
+    gate: &G,
     scripts: &[Script],
     place: u64,
     order: &ClientOrder,
@@ -34,7 +46,10 @@ fn run_in_order<D: Desk, R: Wait>(
     ensures runs { IfOk result (λ outcomes.
         AreRunsAt D.moves scripts.now desk.old outcomes.items desk.new) }
 {
-    order.wait(rt, place);
+    if order.may_wait(place) {
+        gate.notice(client_of(scripts), Notice::WaitsForTurn);
+        order.wait(rt, place);
+    }
     let outcomes = run_client(alloc, desk, scripts);
     order.end(rt, place);
     outcomes
@@ -46,6 +61,7 @@ fn run_claimed<P: Pseudo, L: MadeWith<P>, R: Wait, G: Gate>(
     rt: &R,
     alloc: Global,
     desk: &mut LockDesk<'_, P, L, R, G>,
+    gate: &G,
     counter: &ClientCounter,
     clients: &[Vec<Script>],
     order: &ClientOrder,
@@ -67,10 +83,8 @@ fn run_claimed<P: Pseudo, L: MadeWith<P>, R: Wait, G: Gate>(
         }
         let place = number as usize;
         let scripts = clients[place].as_slice();
-        if let Some(script) = scripts.first() {
-            desk.serve(u32::from(script.client()));
-        }
-        let Ok(outcomes) = run_in_order(rt, alloc, desk, scripts, number, order) else {
+        desk.serve(client_of(scripts));
+        let Ok(outcomes) = run_in_order(rt, alloc, desk, gate, scripts, number, order) else {
             return true;
         };
         runs.push_reserved(ClientRun { place, outcomes });
@@ -83,6 +97,8 @@ fn run_claimed<P: Pseudo, L: MadeWith<P>, R: Wait, G: Gate>(
 pub(crate) struct RunContext<'a, P: Pseudo, L: MadeWith<P>, G: Gate> {
     pub(crate) shared: &'a Shared<P, L>,
     pub(crate) gate: &'a G,
+    /// Where workers take turns, if they do.
+    pub(crate) admission_queue: Option<&'a AdmissionQueue>,
     pub(crate) counter: &'a ClientCounter,
     pub(crate) clients: &'a [Vec<Script>],
     pub(crate) order: &'a ClientOrder,
@@ -90,11 +106,12 @@ pub(crate) struct RunContext<'a, P: Pseudo, L: MadeWith<P>, G: Gate> {
     pub(crate) tries: u64,
 }
 
-/// Does a job: claims clients until none is left, and runs the scripts of each.
-fn work<P: Pseudo, L: MadeWith<P>, R: Wait, G: Gate>(
+/// Does a job by a worker that has this gate: claims clients until none is left, and runs the scripts of each.
+fn work_at<P: Pseudo, L: MadeWith<P>, R: Wait, G: Gate, H: Gate>(
     rt: &R,
     alloc: Global,
     context: &RunContext<'_, P, L, G>,
+    gate: &H,
     job: WorkerJob<L>,
 ) -> Worked<L>
     requires { IsFresh context.now.counter.now (length context.now.clients.now) job.claim_handle }
@@ -108,11 +125,12 @@ fn work<P: Pseudo, L: MadeWith<P>, R: Wait, G: Gate>(
     } = job;
     let mut runs = Vec::new(alloc);
     let tries = Tries::PerScript(context.tries);
-    let mut desk = LockDesk::new(rt, context.shared, context.gate, share, tries);
+    let mut desk = LockDesk::new(rt, context.shared, gate, share, tries);
     let failed = run_claimed(
         rt,
         alloc,
         &mut desk,
+        gate,
         context.counter,
         context.clients,
         context.order,
@@ -133,6 +151,27 @@ fn work<P: Pseudo, L: MadeWith<P>, R: Wait, G: Gate>(
     }
 }
 
+/// Does a job, by a worker that takes turns with the others if workers do.
+fn work<P: Pseudo, L: MadeWith<P>, R: Wait + Clock, G: Gate>(
+    rt: &R,
+    alloc: Global,
+    context: &RunContext<'_, P, L, G>,
+    job: WorkerJob<L>,
+) -> Worked<L>
+    requires { IsFresh context.now.counter.now (length context.now.clients.now) job.claim_handle }
+    ensures { HasWorked AreClientOutcomes context.now.counter.now
+        (scripts_of_clients context.now.clients.now) result.claim_handle result.runs.items
+        result.failed }
+{
+    let Some(queue) = context.admission_queue else {
+        return work_at(rt, alloc, context, context.gate, job);
+    };
+    let gate = WorkerGate::new(rt, context.gate, queue);
+    let worked = work_at(rt, alloc, context, &gate, job);
+    gate.close();
+    worked
+}
+
 /// Does each job in a thread of its own, or in this one where a thread is refused, and joins them all.
 ///
 /// # Errors
@@ -140,7 +179,7 @@ fn work<P: Pseudo, L: MadeWith<P>, R: Wait, G: Gate>(
 pub(crate) fn work_all<
     P: Pseudo + Send,
     L: MadeWith<P> + Send + Sync,
-    R: Threads + Wait + Sync,
+    R: Threads + Wait + Clock + Sync,
     G: Gate + Sync,
 >(
     rt: &R,

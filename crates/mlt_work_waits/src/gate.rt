@@ -9,7 +9,7 @@ use mlt_object_kinds::ObjOp;
 /// What is told of a client that is no event.
 #[derive(Clone, Copy, PartialEq, Eq)]
 pub enum Notice {
-    /// It is to wait for its turn before it calls an operation.
+    /// It is to wait for its turn before it calls an operation, or begins its first transaction.
     WaitsForTurn,
     /// Its operation is given up, since its transaction is the youngest of a cycle of waits: the victim of the deadlock.
     IsVictim,

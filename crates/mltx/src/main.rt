@@ -43,7 +43,7 @@ use mlt_text::write_text;
 use mlt_trace::{KeptItem, write_trace};
 use mlt_trace_check::{check_long_trace, check_trace};
 use mlt_types::{Limits, Low, Mult, Pseudo, Refusal};
-use mlt_work::{BeginQueue, RunOptions, run_scripts};
+use mlt_work::{NoGate, RunOptions, run_scripts};
 use output::Output;
 use screen::{Screen, look_of};
 use server::run_server;
@@ -305,6 +305,7 @@ fn run_work<P: Pseudo + Drop + Send, T: Threads + Wait + Clock + Sync>(
     let options = RunOptions {
         limits: Limits::program(),
         workers: work.workers,
+        takes_turns: work.workers > 1,
         tries: work.tries,
         first: loaded.len() as u64,
     };
@@ -316,7 +317,7 @@ fn run_work<P: Pseudo + Drop + Send, T: Threads + Wait + Clock + Sync>(
         pseudo,
         loaded,
         &options,
-        &BeginQueue::new(threads),
+        &NoGate,
     );
     end_run(rt, run, told, input, &mut screen)
 }

@@ -1,0 +1,92 @@
+//! Where a worker takes turns with the others.
+
+use crate::tuning::{ANSWERS_PER_TURN, MOST_ADMITTED, MOST_BYPASSING};
+use mlt_event::{Answer, Told};
+use mlt_object_kinds::ObjOp;
+use mlt_work_admission::{AdmissionQueue, AdmissionRules, AfterAnswer, PassHolder};
+use mlt_work_waits::{Gate, Notice};
+use std::sync::Wait;
+use std::time::Clock;
+
+/// The queue of the workers of a run.
+pub(crate) fn worker_queue() -> AdmissionQueue {
+    AdmissionQueue::new(AdmissionRules {
+        most_admitted: MOST_ADMITTED,
+        most_bypassing: MOST_BYPASSING,
+        answers_per_turn: ANSWERS_PER_TURN,
+    })
+}
+
+/// The gate of a worker that takes turns. It tells another gate all that it is told, and then has the worker wait for its turn, or end it.
+/// A turn ends in the midst of a transaction, which stays open while others have theirs. So transactions are interleaved, and one
+/// worker is at work at a time: a transaction in memory takes microseconds, and to execute its steps one after another takes the
+/// least time (Stonebraker et al., The End of an Architectural Era, VLDB 2007, section 3.1).
+pub(crate) struct WorkerGate<'a, R: Wait + Clock, G: Gate> {
+    gate: &'a G,
+    holder: PassHolder<'a, R>,
+}
+
+impl<'a, R: Wait + Clock, G: Gate> WorkerGate<'a, R, G> {
+    /// That of a worker that has no turn yet.
+    pub(crate) fn new(
+        rt: &'a R,
+        gate: &'a G,
+        admission_queue: &'a AdmissionQueue,
+    ) -> WorkerGate<'a, R, G> {
+        let holder = PassHolder::new(rt, admission_queue);
+        WorkerGate { gate, holder }
+    }
+
+    /// The worker ends.
+    pub(crate) fn close(self) {
+        let WorkerGate { gate: _, holder } = self;
+        holder.close();
+    }
+
+    /// The event was told something else than that its operation goes on.
+    #[inline(never)]
+    fn pause_between(&self, told: Told) {
+        match self.holder.count(&told) {
+            AfterAnswer::GoesOn => (),
+            AfterAnswer::Leaves => self.holder.leave(),
+            AfterAnswer::Queues => self.holder.queue(),
+        }
+    }
+}
+
+impl<R: Wait + Clock, G: Gate> Gate for WorkerGate<'_, R, G> {
+    fn begin(&self, client: u32) {
+        self.gate.begin(client);
+        if self.holder.is_to_pause() {
+            self.holder.leave();
+            self.holder.pause();
+        }
+        self.holder.enter_if_outside();
+    }
+
+    #[inline(always)]
+    fn call(&self, client: u32, op: &ObjOp) {
+        self.gate.call(client, op);
+    }
+
+    fn notice(&self, client: u32, notice: Notice) {
+        self.gate.notice(client, notice);
+        if notice == Notice::WaitsForTurn {
+            self.holder.leave();
+        }
+    }
+
+    #[inline(always)]
+    fn pause(&self, client: u32, told: &Told) {
+        self.gate.pause(client, told);
+        // Within an operation it goes on, since others may wait for its pages.
+        if !matches!(told, Told::Called | Told::Answered(Answer::Going)) {
+            self.pause_between(*told);
+        }
+    }
+
+    #[inline(always)]
+    fn is_patient(&self, client: u32) -> bool {
+        self.gate.is_patient(client)
+    }
+}
