@@ -254,13 +254,6 @@ def client_that_waits_in_a_transaction_that_is_open_long_is_cut(mltx: Program) -
         expect(server.end(), out="served 3\n", notes=[cut_for(2, OPEN_LONG)])
 
 
-LEAVES: dict[str, Callable[[Peer], None]] = {
-    "reset": break_off,
-    "closed": lambda peer: peer.socket.close(),
-    "closed-for-sending": Peer.end,
-}
-
-
 @test(seconds=1)
 def connections_are_numbered(mltx: Program) -> None:
     """From 1 on, each by how many came before it: also the last of many is named so that is cut."""
@@ -273,8 +266,8 @@ def connections_are_numbered(mltx: Program) -> None:
         expect(server.end(), out=f"served {many}\n", notes=[cut_for(many, LONG_LINE)])
 
 
-@each({f"client-whose-connection-is-{name}-while-it-waits-is-found": leaves for name, leaves in LEAVES.items()}, seconds=2)
-def client_that_leaves_while_it_waits_is_found(mltx: Program, leaves: Callable[[Peer], None]) -> None:
+@test(seconds=2)
+def client_whose_connection_is_reset_while_it_waits_is_found(mltx: Program) -> None:
     """Within a second or so what it did is taken back, and its session serves another, though nobody ends what it waits for."""
     with mltx.serve("--sessions", 2, limit=3) as server, server.connect() as holder:
         says(holder, "begin", "begun 1", "up 1 1", "done")
@@ -282,7 +275,7 @@ def client_that_leaves_while_it_waits_is_found(mltx: Program, leaves: Callable[[
             says(waiter, "begin", "begun 2", "up 2 1", "done")
             waiter.send("read 1\n")
             says_nothing(waiter, "the counter is held")
-            leaves(waiter)
+            break_off(waiter)
             with takes(0, 1 + SLACK, "a client that left while it waited was found"), server.connect() as other:
                 other.socket.settimeout(PATIENCE)
                 says(other, "begin", "begun 3", "read 2", "is 0", "quit", "bye")
@@ -307,17 +300,48 @@ def client_that_closes_behind_its_commit_while_it_waits_is_served(mltx: Program)
         expect(ended, out="served 3\n", notes=ended.notes)
 
 
-@test(seconds=1)
-def client_that_ends_its_input_while_it_waits_is_answered(mltx: Program) -> None:
-    """It is not gone: it hears the answer, however long that takes."""
+# What a client sends that then ends its input while an operation of it waits, and all that it is told.
+ENDS_OF_INPUT = {
+    "behind-more-lines": ("read 1|commit", "is 1|committed 2"),
+    "behind-the-operation": ("read 1", "is 1"),
+    "behind-the-operation-and-blank-lines": ("read 1||", "is 1"),
+}
+
+
+@each({f"client-that-ends-its-input-{name}-while-it-waits-is-answered": case for name, case in ENDS_OF_INPUT.items()}, seconds=2)
+def client_that_ends_its_input_while_it_waits_is_answered(mltx: Program, case: tuple[str, str]) -> None:
+    """It is not gone: its operation waits, and it hears the answer, however long that takes."""
+    asked, told = case
     with mltx.serve(limit=2) as server, server.connect() as holder, server.connect() as waiter:
         says(holder, "begin", "begun 1", "up 1 1", "done")
-        waiter.send("begin\nread 1\ncommit\n")
+        says(waiter, "begin", "begun 2")
+        waiter.send(lines(asked))
         waiter.end()
         time.sleep(2)
+        says_nothing(waiter, "the counter is held")
         says(holder, "commit", "committed 1", "quit", "bye")
-        same(waiter.rest(), lines("begun 2|is 1|committed 2").encode(), "the client that ended its input")
+        same(waiter.rest(), lines(told).encode(), "the client that ended its input")
         expect(server.end(), out="served 2\n")
+
+
+@test(seconds=2)
+def client_that_closes_while_it_waits_is_found_once_it_is_answered(mltx: Program) -> None:
+    """Until then its operation waits, and it holds what it did."""
+    with mltx.serve("--sessions", 3, limit=3) as server, server.connect() as holder, server.connect() as other:
+        says(holder, "begin", "begun 1", "up 1 1", "done")
+        with server.connect() as waiter:
+            says(waiter, "begin", "begun 2", "up 2 1", "done")
+            waiter.send("read 1\n")
+            says_nothing(waiter, "the counter is held")
+        says(other, "begin", "begun 3")
+        other.send("read 2\n")
+        time.sleep(1)
+        says_nothing(other, "the client that closed holds the other counter")
+        says(holder, "commit", "committed 1", "quit", "bye")
+        same(other.line(), "is 0", "once the client that closed was answered")
+        says(other, "quit", "bye")
+        ended = server.end()
+        expect(ended, out="served 3\n", notes=ended.notes)
 
 
 # Waits that end.
@@ -376,8 +400,8 @@ def operation_waits_for_ever(mltx: Program, options: tuple[object, ...]) -> None
 
 @test(seconds=2)
 def client_that_leaves_before_it_is_served(mltx: Program) -> None:
-    """What it sent is not done, whether it closed its connection or broke it off. One that has just ended its input is served."""
-    with mltx.serve("--sessions", 1, limit=5) as server, server.connect() as holder:
+    """What it sent is not done if it broke its connection off, and done if it closed it."""
+    with mltx.serve("--sessions", 1, limit=4) as server, server.connect() as holder:
         says(holder, "begin", "begun 1")
         closed, reset = server.connect(), server.connect()
         for number, peer in enumerate((closed, reset), 7):
@@ -386,14 +410,29 @@ def client_that_leaves_before_it_is_served(mltx: Program) -> None:
         closed.socket.close()
         break_off(reset)
         with server.connect() as late:
-            late.send(lines("begin|up 9 1|commit"))
-            late.end()
             says(holder, "quit", "bye")
             holder.socket.close()
-            same(late.rest(), lines("begun 2|done|committed 1").encode(), "the client that ended its input")
-        told = lines("begun 3|is 0|is 0|is 1").encode()
-        same(server.talk(lines("begin|read 7|read 8|read 9")), told, "a client after those")
-        expect(server.end(), out="served 5\n", notes=[cut_for(2, BROKEN), cut_for(3, BROKEN)])
+            same(late.say_all(lines("begin|read 7|read 8")), lines("begun 3|is 1|is 0").encode(), "a client after those")
+        ended = server.end()
+        expect(ended, out="served 4\n", notes=ended.notes)
+        holds(cut_for(3, BROKEN) in ended.notes, f"the notes are {ended.notes}")
+
+
+@test(seconds=4)
+def client_that_ended_its_input_is_served_however_long_it_queues(mltx: Program) -> None:
+    """It has sent all its lines, and the only session thread serves another client for 3 seconds."""
+    with mltx.serve("--sessions", 1, limit=2) as server, server.connect() as holder, server.connect() as queued:
+        says(holder, "begin", "begun 1")
+        queued.send(lines("begin|up 7 1|commit"))
+        queued.end()
+        for _ in range(6):
+            time.sleep(0.5)
+            says(holder, "up 8 1", "done")
+        says_nothing(queued, "the only session thread serves another client")
+        says(holder, "quit", "bye")
+        holder.socket.close()
+        same(queued.rest(), lines("begun 2|done|committed 1").encode(), "the client that ended its input")
+        expect(server.end(), out="served 2\n")
 
 
 @test(seconds=1)

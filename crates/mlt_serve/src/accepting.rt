@@ -16,7 +16,7 @@ use std::io::Write;
 use std::net::{Shutdown, TcpStream};
 use std::sync::Wait;
 use std::thread;
-use std::time::{Clock, Duration, Instant};
+use std::time::{Clock, Duration};
 
 /// What a client hears that is refused since all session threads serve others.
 const TOO_MANY: &[u8] = b"error 7 TooManyOpen\n";
@@ -29,8 +29,6 @@ pub(crate) struct Connection {
     /// Its number, from 1: 1, 2, 3 and so on, and 1 again after 4,294,967,295.
     pub(crate) client: u32,
     pub(crate) stream: TcpStream,
-    /// When it was accepted, if a clock could say so.
-    pub(crate) since: Option<Instant>,
     ghost numbered: { client ≡ before % (2 ^ 32 - 1) + 1 },
 }
 
@@ -187,7 +185,6 @@ impl<'a, R: Wait + Clock> Acceptor<'a, R> {
             before,
             client: number_of(before),
             stream,
-            since: Instant::now(self.rt).ok(),
         };
         match connections.send(self.rt, connection) {
             Ok(()) => Ok(()),

@@ -4,9 +4,8 @@ ghost use Rattle.std.specs.Prelude.{◌≡◌, None, Some, false, true};
 
 use crate::door::Door;
 use crate::options::ServeOptions;
-use crate::tuning::QUEUE_SECONDS;
 use mlt_serve_connections::{Admission, SpinPolicy};
-use mlt_serve_seats::{Cut, Notes, Seat, Seats, Sitting, is_broken, is_closed};
+use mlt_serve_seats::{Cut, Notes, Seat, Seats, Sitting, is_broken};
 use mlt_types::Pseudo;
 use mlt_work_admission::AdmissionQueue;
 use mlt_work_desk::{MadeWith, Shared};
@@ -49,15 +48,9 @@ impl<P: Pseudo, L: MadeWith<P>> Service<'_, P, L> {
         Admission::new(rt, self.admission_queue, sitting)
     }
 
-    /// Why a connection that was accepted then is not to be served any more, if so.
-    pub(crate) fn cut_in_queue<C: Clock>(
-        &self,
-        clock: &C,
-        stream: &TcpStream,
-        since: Option<Instant>,
-    ) -> Option<Cut> {
-        let is_gone = is_broken(stream) || (has_queued_long(clock, since) && is_closed(stream));
-        cut_of_queued(self.door.stops(), is_gone)
+    /// Why a connection that was accepted is not to be served any more, if so.
+    pub(crate) fn cut_in_queue(&self, stream: &TcpStream) -> Option<Cut> {
+        cut_of_queued(self.door.stops(), is_broken(stream))
     }
 }
 
@@ -74,12 +67,6 @@ fn cut_of_queued(stops: bool, is_gone: bool) -> Option<Cut>
     } else {
         None
     }
-}
-
-/// Whether a connection that was accepted then has queued for so long that its client, if it has closed its side, counts as gone.
-fn has_queued_long<C: Clock>(clock: &C, since: Option<Instant>) -> bool {
-    let queued = elapsed(since, Instant::now(clock).ok());
-    queued.is_some_and(|time| time >= Duration::from_secs(QUEUE_SECONDS))
 }
 
 /// How much time has passed, if the clock could say so.

@@ -169,9 +169,8 @@ impl<P: Pseudo, L: MadeWith<P>, K: Receipts + Drop> SessionThread<P, L, K> {
             before: _,
             client,
             stream,
-            since,
         } = connection;
-        if let Some(cut) = service.cut_in_queue(rt, &stream, since) {
+        if let Some(cut) = service.cut_in_queue(&stream) {
             self.connections = self.connections.saturating_add(1);
             service.notes.tell(rt, Note::SessionCut(client, cut));
             return false;

@@ -27,9 +27,5 @@ pub(crate) const MANY_ITEMS: usize = 8_192;
 /// How many milliseconds pass at least between two pieces that are taken out of the manager. By `endless`.
 pub(crate) const LEAST_PAUSE_MILLISECONDS: u64 = 10;
 
-/// After how many seconds in the queue a client that has closed its side counts as gone. One that closes it once it has sent its lines
-/// is served until then. Nothing measures it.
-pub(crate) const QUEUE_SECONDS: u64 = 1;
-
 /// How many seconds sessions have to end by themselves once the server is to stop. Then they are cut.
 pub(crate) const STOP_SECONDS: u64 = 3;

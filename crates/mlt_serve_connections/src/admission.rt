@@ -1,6 +1,5 @@
 //! The way of one session through the admission queue, and what it waits for before it begins a transaction.
 
-use crate::lines::is_one_line;
 use crate::socket::Socket;
 use crate::tuning::{ANSWERS_PER_TURN, MOST_ADMITTED, MOST_BYPASSING};
 use mlt_event::{Answer, Told};
@@ -127,7 +126,6 @@ impl<R: Wait + Clock> Read for Outside<'_, R> {
         self.admission.leave();
         let count = self.socket.read(buf)?;
         if count > 0 {
-            self.admission.sitting.read(is_one_line(&buf[..count]));
             self.admission.holder.enter();
         }
         Ok(count)

@@ -2,7 +2,7 @@
 
 use crate::histogram::{Histogram, SharedHistogram};
 use crate::note::Cut;
-use crate::presence::{is_broken, is_read_out};
+use crate::presence::is_broken;
 use crate::session::{EndedSpans, SessionActivity};
 use crate::totals::Totals;
 use crossbeam_utils::CachePadded;
@@ -47,8 +47,6 @@ struct Session {
     since: Option<Instant>,
     /// Why others have cut it, and when, if they have.
     cut: Option<(Cut, Option<Instant>)>,
-    /// Whether it still hears its client.
-    hears: bool,
     stream: Arc<TcpStream>,
 }
 
@@ -95,7 +93,6 @@ impl Seat {
             client,
             since,
             cut: None,
-            hears: true,
             stream,
         });
     }
@@ -199,8 +196,8 @@ impl Seat {
         session.hear_no_more();
     }
 
-    /// Looks after the session: one whose transaction is open for too long, or whose client is gone while its operation waits, is cut;
-    /// an operation that waits for too long is to be given up. It answers the transaction that is to try again, if one is.
+    /// Looks after the session: one whose transaction is open for too long, or whose connection is reset while its operation waits, is
+    /// cut; an operation that waits for too long is to be given up. It answers the transaction that is to try again, if one is.
     pub fn look_after<R: Wait + Clock>(&self, rt: &R, patience: &Patience) -> Option<TxId> {
         let now = Instant::now(rt).ok();
         let mut record = self.record.lock(rt);
@@ -215,8 +212,7 @@ impl Seat {
             let _ = session.stream.shutdown(Shutdown::Both);
         }
         let wait = activity.wait?;
-        let is_heard = wait.is_last && session.hears;
-        if is_broken(&session.stream) || (is_heard && is_read_out(&session.stream)) {
+        if is_broken(&session.stream) {
             self.cut(session, Cut::Connection, now);
         }
         if has_passed(patience.wait, wait.since, now) {
@@ -227,8 +223,7 @@ impl Seat {
 }
 
 impl Session {
-    fn hear_no_more(&mut self) {
-        self.hears = false;
+    fn hear_no_more(&self) {
         // It fails only where the connection is gone.
         let _ = self.stream.shutdown(Shutdown::Read);
     }

@@ -67,8 +67,6 @@ impl OpenTransaction {
 pub struct WaitState {
     /// Since when it was first told to wait, if a clock could say so.
     pub since: Option<Instant>,
-    /// Whether nothing was read behind its line.
-    pub(crate) is_last: bool,
 }
 
 /// A wait, or a transaction, that has ended.
@@ -100,12 +98,9 @@ pub struct SessionActivity {
 }
 
 impl SessionActivity {
-    /// Its operation is to wait. It is told whether nothing was read behind the line of that.
-    pub(crate) fn wait(&mut self, is_last: bool) {
-        self.wait = self.wait.or(Some(WaitState {
-            since: None,
-            is_last,
-        }));
+    /// Its operation is to wait.
+    pub(crate) fn wait(&mut self) {
+        self.wait = self.wait.or(Some(WaitState { since: None }));
     }
 
     /// Its operation was told this reply. It answers whether that is all: if the operation has waited, nothing is noted yet.

@@ -17,8 +17,6 @@ pub struct Sitting<'a, R: Wait + Clock> {
     /// Whether others are to see its transactions, and not only waits.
     is_watched: bool,
     activity: RefCell<SessionActivity>,
-    /// Whether what was read last is one line.
-    is_one_line: Cell<bool>,
     /// Whether others see all that it has done.
     is_shown: Cell<bool>,
 }
@@ -31,7 +29,6 @@ impl<'a, R: Wait + Clock> Sitting<'a, R> {
             seat,
             is_watched,
             activity: RefCell::new(seat.activity(rt)),
-            is_one_line: Cell::new(false),
             is_shown: Cell::new(true),
         }
     }
@@ -40,11 +37,6 @@ impl<'a, R: Wait + Clock> Sitting<'a, R> {
     fn activity(&self) -> Option<RefMut<'_, SessionActivity>> {
         self.is_shown.set(false);
         self.activity.try_borrow_mut().ok()
-    }
-
-    /// It has read bytes, which are one line or not.
-    pub fn read(&self, is_one_line: bool) {
-        self.is_one_line.set(is_one_line);
     }
 
     /// It is to call this operation.
@@ -58,7 +50,7 @@ impl<'a, R: Wait + Clock> Sitting<'a, R> {
     /// It is to wait for its turn.
     pub fn rest(&self) {
         if let Some(mut activity) = self.activity() {
-            activity.wait(self.is_one_line.get());
+            activity.wait();
         }
     }
 
