@@ -91,7 +91,7 @@ OF_OPTIONS = {
     "--load <FILE>": "Begin with the accounts, elements and counters of FILE, which are lines as `run` prints them",
     "--save <FILE>": "When the server exits, write its accounts, elements and counters to FILE, for --load",
     "--explain": "After each event that is blocked or waits, print the reason in lines that begin with `#`",
-    "--workers <N>": "Run the scripts in N threads, 1 to 8 [default: 4]",
+    "--workers <N>": "Run the scripts in N threads that take turns, 1 to 8; more are not faster [default: 4]",
     "--tries <N>": "Answer GaveUp after N waits for other transactions, 1 to 1000000 [default: 10000]",
     "--long": "Check a trace of any length: read it piece by piece, and print while reading",
     "--endless": "Accept connections without limit, and keep no history in memory; not with --limit",

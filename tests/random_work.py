@@ -473,12 +473,13 @@ SIDE_BY_SIDE = ((1, "mult", FEW), (2, "low", WIDE), (4, "mult", FEW), (8, "low",
 
 @each({f"random-scripts-of-{case[0]}-workers": case for case in SIDE_BY_SIDE}, seconds=4)
 def random_scripts_side_by_side(mltx: Program, case: tuple[int, str, Cells]) -> None:
-    """Scripts of several clients: what committed is what `solo` says of these scripts in the order of their commits. Naps take no
-    time, so that workers meet."""
+    """Scripts of several clients: what committed is what `solo` says of these scripts in the order of their commits. There are many
+    of them, so that workers meet."""
     workers, hash_name, cells = case
-    for number in range(20 * harness.CASES):
+    for number in range(10 * harness.CASES):
         dice = dice_of(f"side by side {case}", number)
-        scripts = random_scripts(dice, cells, dice.randint(1, 10))
+        clients = dice.randint(1, 10)
+        scripts = [script for _ in range(4) for script in random_scripts(dice, cells, clients)]
         text = "".join(scripts)
         options = ["--workers", workers, "--hash", hash_name, "--tries", dice.choice((3, 100, 10_000))]
         with told_in("side by side", number, text):

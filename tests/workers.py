@@ -1,4 +1,4 @@
-"""`run` by many workers: how many clients run side by side, and scripts that spend their tries."""
+"""`run` by many workers: how many clients run side by side, how transactions are interleaved, and scripts that spend their tries."""
 import random
 
 from harness import Program, each, holds, lines, same, test
@@ -6,8 +6,6 @@ from harness import Program, each, holds, lines, same, test
 # How often a run is tried until something is seen that a schedule need not show.
 ATTEMPTS = 20
 CLIENTS, SCRIPTS = 12, 12_000
-# Who was at work is often the first to begin again, so all of eight workers are at work at once in one run of ten or twenty.
-ENOUGH = 6
 
 
 def outcomes(out: bytes) -> list[tuple[str, list[str]]]:
@@ -40,21 +38,48 @@ WORKERS = {f"clients-side-by-side-by-{workers or 'the-usual'}-workers": workers 
 
 @each(WORKERS, seconds=2)
 def clients_side_by_side(mltx: Program, workers: int | None) -> None:
-    """So many clients run side by side as there are workers, which are 4 where no number is given, six of eight at least, and
-    never more."""
+    """So many clients run side by side as there are workers, which are 4 where no number is given, and never more."""
     text = "".join(lines(f"begin {client}|up 7 1|commit") * SCRIPTS for client in range(CLIENTS))
     file, seen, most = mltx.file("scripts.txt", text), list[int](), workers or 4
-    while len(seen) < ATTEMPTS and max(seen, default=0) < min(most, ENOUGH):
+    while len(seen) < ATTEMPTS and max(seen, default=0) < most:
         ran = mltx.run("run", *(["--workers", workers] if workers else []), file)
         same((ran.status, ran.err), (0, b""), f"{workers} workers")
         same(ran.out.splitlines()[-1], b"counter 7 %d" % (CLIENTS * SCRIPTS), "the base")
         seen.append(most_side_by_side(ran.out))
-    holds(min(most, ENOUGH) <= max(seen) <= most, f"so many clients were side by side in {len(seen)} runs: {seen}")
+    same(max(seen), most, f"so many clients were side by side in {len(seen)} runs: {seen}")
+
+
+def interleaved(trace: str) -> float:
+    """Which part of the transactions of a trace began while another one was open."""
+    is_open, begun, beside = set[str](), 0, 0
+    for line in trace.splitlines():
+        word, number = line.split()[:2]
+        if word == "begin":
+            begun += 1
+            beside += bool(is_open)
+            is_open.add(number)
+        elif word in ("commit", "abort"):
+            is_open.remove(number)
+    return beside / begun
+
+
+@each({f"transactions-are-interleaved-by-{workers}-workers": workers for workers in (2, 4, 8)}, seconds=1)
+def transactions_are_interleaved(mltx: Program, workers: int) -> None:
+    """Of 3,000 scripts of eight clients, of three to six operations each, a third at least begin while another transaction is
+    open. Where threads begin late one worker may do most of a run, so it is tried again."""
+    dice, trace, seen = random.Random(workers), mltx.folder / "trace", list[float]()
+    scripts = [lines(f"begin {1 + place % 8}" + "|up 7 1" * dice.randint(3, 6) + "|commit") for place in range(3_000)]
+    file = mltx.file("scripts.txt", "".join(scripts))
+    while len(seen) < ATTEMPTS and max(seen, default=0) < 1 / 3:
+        ran = mltx.run("run", "--workers", workers, "--trace", trace, file)
+        same((ran.status, ran.err), (0, b""), f"{workers} workers")
+        seen.append(interleaved(trace.read_text()))
+    holds(max(seen) >= 1 / 3, f"so many parts began beside another in {len(seen)} runs: {seen}")
 
 
 def gave_up(mltx: Program, *options: object) -> int:
-    """How many scripts of a reader and a writer gave up; the base is what the others leave. The naps of a worker that waits take
-    no time here, so that it often begins beside the other one."""
+    """How many scripts of a reader and a writer gave up; the base is what the others leave. A worker that gave up does not pause
+    here, so that it often does so again."""
     ups = lines("begin 1|up 7 1" + "|up 8 1" * 20 + "|commit") * 2_000
     reads = lines("begin 2|read 7|commit") * 400
     ran = mltx.run("run", *options, "-", given=ups + reads, env=mltx.shim(NO_NAPS="1"))
@@ -81,16 +106,6 @@ def scripts_give_up_with_their_tries_spent(mltx: Program) -> None:
     holds(any(counts), f"no script gave up in {ATTEMPTS} runs with one try")
     for options in ((), ("--tries", 10_000), ("--tries", 1_000_000)):
         same(gave_up(mltx, *options), 0, f"how many scripts gave up with {options}")
-
-
-@test
-def whoever_ends_lets_the_next_one_begin(mltx: Program) -> None:
-    """900 scripts end at once: aborted with nothing done, aborted with an operation, or committed. Were one kind of end
-    not seen, each later begin would wait for a tenth part of a second in vain, and all for more than a minute."""
-    given = lines("begin|abort|begin|up 7 1|abort|begin|up 7 1|commit") * 300
-    ran = mltx.run("run", "-", given=given, timeout=20)
-    same((ran.status, ran.err), (0, b""), "a run of 900 scripts")
-    same(ran.out.splitlines()[-1], b"counter 7 300", "the base")
 
 
 @test(seconds=1)

@@ -202,7 +202,7 @@ const RUN_ROWS: &[Row] = &[
     Row::Number(
         "workers",
         "N",
-        "Run the scripts in N threads, 1 to 8",
+        "Run the scripts in N threads that take turns, 1 to 8; more are not faster",
         1,
         8,
         "4",

@@ -8,4 +8,4 @@ pub(crate) const MOST_BYPASSING: u64 = 0;
 
 /// After how many answers the turn of a worker is over. It is a prime: where all transactions have the same number of answers, turns so
 /// end at each place in them.
-pub(crate) const ANSWERS_PER_TURN: u32 = 127;
+pub(crate) const ANSWERS_PER_TURN: u32 = 251;
