@@ -9,6 +9,7 @@ mod client_order;
 mod engine;
 mod reporting;
 mod running;
+mod start_line;
 mod tuning;
 mod worker;
 mod worker_gate;

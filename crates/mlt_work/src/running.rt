@@ -10,6 +10,7 @@ ghost use Rattle.mlt_work.specs.Runs.{AreRunWith, AreSame, HasRunAll};
 
 use crate::client_order::ClientOrder;
 use crate::reporting::report_of;
+use crate::start_line::StartLine;
 use crate::worker::{RunContext, work_all};
 use crate::worker_gate::worker_queue;
 use mlt_manager::Manager;
@@ -90,6 +91,7 @@ fn run_with<
         shared: &shared,
         gate,
         admission_queue: options.takes_turns.then_some(&admission_queue),
+        start_line: &StartLine::new(options.workers),
         counter: &counter,
         clients,
         order: &ClientOrder::new(options.first),

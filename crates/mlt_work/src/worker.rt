@@ -8,6 +8,7 @@ ghost use Rattle.mlt_work_clients.specs.Workers.{HasWorked, IsFresh};
 ghost use Rattle.mlt_work.specs.Runs.{AreRunWith};
 
 use crate::client_order::ClientOrder;
+use crate::start_line::StartLine;
 use crate::worker_gate::WorkerGate;
 use mlt_script::Script;
 use mlt_script_serial::{Desk, Outcome, run_client};
@@ -99,6 +100,8 @@ pub(crate) struct RunContext<'a, P: Pseudo, L: MadeWith<P>, G: Gate> {
     pub(crate) gate: &'a G,
     /// Where workers take turns, if they do.
     pub(crate) admission_queue: Option<&'a AdmissionQueue>,
+    /// Where those that take turns begin.
+    pub(crate) start_line: &'a StartLine,
     pub(crate) counter: &'a ClientCounter,
     pub(crate) clients: &'a [Vec<Script>],
     pub(crate) order: &'a ClientOrder,
@@ -167,6 +170,7 @@ fn work<P: Pseudo, L: MadeWith<P>, R: Wait + Clock, G: Gate>(
         return work_at(rt, alloc, context, context.gate, job);
     };
     let gate = WorkerGate::new(rt, context.gate, queue);
+    gate.start(rt, context.start_line);
     let worked = work_at(rt, alloc, context, &gate, job);
     gate.close();
     worked

@@ -1,5 +1,6 @@
 //! Where a worker takes turns with the others.
 
+use crate::start_line::StartLine;
 use crate::tuning::{ANSWERS_PER_TURN, MOST_ADMITTED, MOST_BYPASSING};
 use mlt_event::{Answer, Told};
 use mlt_object_kinds::ObjOp;
@@ -35,6 +36,13 @@ impl<'a, R: Wait + Clock, G: Gate> WorkerGate<'a, R, G> {
     ) -> WorkerGate<'a, R, G> {
         let holder = PassHolder::new(rt, admission_queue);
         WorkerGate { gate, holder }
+    }
+
+    /// The worker begins: it queues for its first turn, in which it waits until the others have queued too.
+    pub(crate) fn start(&self, rt: &R, start_line: &StartLine) {
+        start_line.come(rt);
+        self.holder.enter();
+        start_line.wait(rt);
     }
 
     /// The worker ends.
