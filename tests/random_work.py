@@ -473,8 +473,8 @@ SIDE_BY_SIDE = ((1, "mult", FEW), (2, "low", WIDE), (4, "mult", FEW), (8, "low",
 
 @each({f"random-scripts-of-{case[0]}-workers": case for case in SIDE_BY_SIDE}, seconds=4)
 def random_scripts_side_by_side(mltx: Program, case: tuple[int, str, Cells]) -> None:
-    """Scripts of several clients: what committed is what `solo` says of these scripts in the order of their commits. There are many
-    of them, so that workers meet."""
+    """Scripts of several clients: what committed is what `solo` says of these scripts in the order of their commits. There are
+    many of them, so that workers meet."""
     workers, hash_name, cells = case
     for number in range(10 * harness.CASES):
         dice = dice_of(f"side by side {case}", number)

@@ -1,4 +1,4 @@
-"""`run` by many workers: how many clients run side by side, how transactions are interleaved, and scripts that spend their tries."""
+"""`run` by many workers: how many clients run side by side, whether transactions are interleaved, and tries that are spent."""
 import random
 
 from harness import Program, each, holds, lines, same, test
