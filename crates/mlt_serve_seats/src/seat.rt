@@ -196,8 +196,9 @@ impl Seat {
         session.hear_no_more();
     }
 
-    /// Looks after the session: one whose transaction is open for too long, or whose connection is reset while its operation waits, is
-    /// cut; an operation that waits for too long is to be given up. It answers the transaction that is to try again, if one is.
+    /// Looks after the session: one whose transaction is open for too long, or whose connection is reset while its operation
+    /// waits, is cut; an operation that waits for too long is to be given up. It answers the transaction that is to try again, if
+    /// one is.
     pub fn look_after<R: Wait + Clock>(&self, rt: &R, patience: &Patience) -> Option<TxId> {
         let now = Instant::now(rt).ok();
         let mut record = self.record.lock(rt);

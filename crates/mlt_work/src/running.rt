@@ -32,7 +32,8 @@ pub struct RunOptions {
     pub limits: Limits,
     /// How many workers run clients side by side, 1 to 8.
     pub workers: usize,
-    /// Whether workers take turns, so that one is at work at a time and transactions are interleaved. Else each goes on as it can.
+    /// Whether workers take turns, so that one is at work at a time and transactions are interleaved. Else each goes on as it
+    /// can.
     pub takes_turns: bool,
     /// How often a script may be told to wait, or that it is blocked, 1 to 1,000,000. Then it is aborted.
     pub tries: u64,

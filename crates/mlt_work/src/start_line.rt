@@ -4,8 +4,8 @@ use crate::tuning::START_MILLISECONDS;
 use std::sync::{Condvar, CondvarTimeouts, Mutex, Wait};
 use std::time::{Clock, Duration};
 
-/// Has the first turn of workers begin once all of them have come, since a thread that begins late may find a short run at its end. Where
-/// one does not come for some time they begin without it: if a thread was refused, its job waits for the end of another one.
+/// Has the first turn of workers begin once all of them have come, since a thread that begins late may find a short run at its end.
+/// Where one does not come for some time they begin without it: if a thread was refused, its job waits for the end of another one.
 #[derive(Drop)]
 pub(crate) struct StartLine {
     /// How many workers are still to come.

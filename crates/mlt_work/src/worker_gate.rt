@@ -18,10 +18,10 @@ pub(crate) fn worker_queue() -> AdmissionQueue {
     })
 }
 
-/// The gate of a worker that takes turns. It tells another gate all that it is told, and then has the worker wait for its turn, or end it.
-/// A turn ends in the midst of a transaction, which stays open while others have theirs. So transactions are interleaved, and one
-/// worker is at work at a time: a transaction in memory takes microseconds, and to execute its steps one after another takes the
-/// least time (Stonebraker et al., The End of an Architectural Era, VLDB 2007, section 3.1).
+/// The gate of a worker that takes turns. It tells another gate all that it is told, and then has the worker wait for its turn, or
+/// end it. A turn ends in the midst of a transaction, which stays open while others have theirs. So transactions are interleaved,
+/// and one worker is at work at a time: a transaction in memory takes microseconds, and to execute steps one after another takes
+/// the least time (Stonebraker et al., The End of an Architectural Era, VLDB 2007, section 3.1).
 pub(crate) struct WorkerGate<'a, R: Wait + Clock, G: Gate> {
     gate: &'a G,
     holder: PassHolder<'a, R>,

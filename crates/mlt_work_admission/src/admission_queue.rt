@@ -25,8 +25,8 @@ pub struct AdmissionRules {
     pub answers_per_turn: u32,
 }
 
-/// Lets a few threads go to work at once, and admits the others in the order in which they come, so that few are at work at a time
-/// and the others sleep. With more at work than there are processors, the thread that has the lock over the manager may not be
+/// Lets a few threads go to work at once, and admits the others in the order in which they come, so that few are at work at a
+/// time and the others sleep. With more at work than there are processors, the thread that has the lock over the manager may not be
 /// running, and all others wait for it.
 #[derive(Drop)]
 pub struct AdmissionQueue {

@@ -18,8 +18,8 @@ pub enum AfterAnswer {
     Queues,
 }
 
-/// The way of a thread. It leaves where an operation is to wait, which so keeps nobody from work. Once awake it goes on outside, since it
-/// may have locks for which others wait.
+/// The way of a thread. It leaves where an operation is to wait, which so keeps nobody from work. Once awake it goes on outside,
+/// since it may have locks for which others wait.
 pub struct PassHolder<'a, R: Wait> {
     rt: &'a R,
     admission_queue: &'a AdmissionQueue,
@@ -91,8 +91,8 @@ impl<'a, R: Wait> PassHolder<'a, R> {
         self.take_pass(Some(self.admission_queue.queue(self.rt)));
     }
 
-    /// Counts an answer, which does not say that an operation goes on: within one a thread goes on, since others may wait for its
-    /// pages.
+    /// Counts an answer, which does not say that an operation goes on: within one a thread goes on, since others may wait for
+    /// its pages.
     pub fn count(&self, told: &Told) -> AfterAnswer {
         self.answers.set(self.answers.get().saturating_add(1));
         match told {
