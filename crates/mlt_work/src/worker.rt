@@ -162,9 +162,9 @@ fn work<P: Pseudo, L: MadeWith<P>, R: Wait + Clock, G: Gate>(
     job: WorkerJob<L>,
 ) -> Worked<L>
     requires { IsFresh context.now.counter.now (length context.now.clients.now) job.claim_handle }
-    ensures { HasWorked AreClientOutcomes context.now.counter.now
-        (scripts_of_clients context.now.clients.now) result.claim_handle result.runs.items
-        result.failed }
+    ensures { HasWorked (AreRunWith P.bits_of (PerScript context.now.tries))
+        context.now.counter.now (scripts_of_clients context.now.clients.now)
+        result.claim_handle result.runs.items result.failed }
 {
     let Some(queue) = context.admission_queue else {
         return work_at(rt, alloc, context, context.gate, job);

@@ -1,5 +1,8 @@
 //! The way of one thread through the admission queue, and what it waits for before it begins a transaction.
 
+ghost use Rattle.std.specs.Prelude.{◌≡◌, true};
+ghost use Rattle.mlt_work_waits.specs.Gates.{is_to_wait};
+
 use crate::admission_queue::{AdmissionPass, AdmissionQueue};
 use mlt_event::Told;
 use mlt_work_waits::is_to_wait;
@@ -93,7 +96,10 @@ impl<'a, R: Wait> PassHolder<'a, R> {
 
     /// Counts an answer, which does not say that an operation goes on: within one a thread goes on, since others may wait for
     /// its pages.
-    pub fn count(&self, told: &Told) -> AfterAnswer {
+    pub fn count(&self, told: &Told) -> AfterAnswer
+        ensures waits { is_to_wait told.now ≡ true → result ≡ AfterAnswer.Leaves }
+        ensures leaves { result ≡ AfterAnswer.Leaves → is_to_wait told.now ≡ true }
+    {
         self.answers.set(self.answers.get().saturating_add(1));
         match told {
             Told::Cancelled => self.gave_up.set(true),

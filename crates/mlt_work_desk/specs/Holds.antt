@@ -7,7 +7,7 @@ use Rattle.mlt_script_serial.specs.declared.call.DeskAnswer.TheVariants.{Begun, 
 use Rattle.mlt_event.specs.declared.{answer.Answer.Answer, event.Event.Event, told.Told.Told}
 use Rattle.mlt_trace.specs.{Items.TellsOf, declared.item.TraceItem.TraceItem}
 use Rattle.mlt_manager.specs.{Answers.counted, Events.Meets, Managers.IsManager, Managers.ManagerFields, Tolds.AddsItems, Tolds.CalledOps}
-use Rattle.mlt_work_desk.specs.{Tries.GivesUp, Tries.SpendsTries, Views.DeskView, declared.tries.TriesLeft.TriesLeft}
+use Rattle.mlt_work_desk.specs.{Acts.AreEventsFor, Tries.GivesUp, Tries.SpendsTries, Views.DeskView, Views.HasMade, declared.tries.TriesLeft.TriesLeft}
 use Rattle.mlt_work_waits.specs.Gates.{is_to_wait}
 
 -- An event of some manager was told this, and met the contract of its call. What is always true of a manager is true of it
@@ -144,10 +144,13 @@ abbrev pub Begins : List ℕ → DeskCall → DeskAnswer → List ℕ → Type 0
 Begins before DeskCall.Begin (Begun tx) after = after ≡ before ++ tx ∷ []
 Begins before asked given after = after ≡ before
 
--- A call has the answer of an event or one of its refusals, the history has that answer, the desk has begun what it says, and tries are
--- spent as they are to be.
+-- For a call the desk has made just its events. It has the answer of one or one of its refusals, the history has that answer, the
+-- desk has begun what it says, and tries are spent as they are to be.
 pub record Answers {P : Type 0} (bits_of : P → ℕ → ℕ) (before : DeskView) (asked : DeskCall) (given : DeskAnswer) (after : DeskView) : Type 0 where
+  pub own : List (Event × Told)
+  pub made : HasMade before after own
+  pub events : AreEventsFor asked own
   pub may : MayAnswer bits_of asked given after
   pub sees : SeesAnswer before.past.items asked given after.past.items
   pub begins : Begins before.begun asked given after.begun
-  pub spends : SpendsTries before asked after
+  pub spends : SpendsTries before.tries asked own after.tries

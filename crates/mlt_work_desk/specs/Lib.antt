@@ -1,3 +1,4 @@
+pub mod Acts
 pub mod Holds
 pub mod Statistics
 pub mod Makings

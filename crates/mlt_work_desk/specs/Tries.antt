@@ -1,9 +1,9 @@
 -- How the tries of a desk are spent, and why an operation gives up.
-use Rattle.std.specs.Prelude.{ℕ, ◌≡◌, ◌-◌, ◌⊎◌, List, true, false, count_by}
+use Rattle.std.specs.Prelude.{ℕ, ◌≡◌, ◌-◌, ◌⊎◌, List, true, false, All, count_by}
 use Rattle.mlt_event.specs.declared.{event.Event.Event, told.Told.Told}
 use Rattle.mlt_script_serial.specs.declared.call.DeskCall.{DeskCall}
 use Rattle.mlt_work_waits.specs.{Gates.is_to_wait, Waits.Waits, Waits.IsYoungest, declared.wait.Waiting.Waiting}
-use Rattle.mlt_work_desk.specs.{Views.DeskView, Views.HasMade, declared.tries.Tries.Tries, declared.tries.Tries.TheVariants.PerOperation, declared.tries.Tries.TheVariants.PerScript, declared.tries.TriesLeft.TriesLeft}
+use Rattle.mlt_work_desk.specs.{Acts.IsStepOf, Views.DeskView, Views.HasMade, declared.tries.Tries.Tries, declared.tries.Tries.TheVariants.PerOperation, declared.tries.Tries.TheVariants.PerScript, declared.tries.TriesLeft.TriesLeft}
 
 -- so many, of which none are left yet
 abbrev pub tries_of : Tries → TriesLeft
@@ -35,27 +35,31 @@ tries_spent tries = record tries { left = tries.left - 1 }
 abbrev pub waits_in : List (Event × Told) → ℕ
 waits_in acts = count_by (λ act. is_to_wait act.1) acts
 
--- Of the events that a desk has made for an operation, each that was told to wait, or that it is blocked, has spent one of its
--- tries, and no other has.
-pub record SpendsByWaits (before after : DeskView) : Type 0 where
-  pub own : List (Event × Told)
-  pub made : HasMade before after own
-  pub given : after.tries.given ≡ before.tries.given
-  pub left : after.tries.left ≡ before.tries.left - waits_in own
+-- Of these events, each that was told to wait, or that it is blocked, has spent one of the tries, and no other has.
+pub record SpendsByWaits (before after : TriesLeft) (own : List (Event × Told)) : Type 0 where
+  pub given : after.given ≡ before.given
+  pub left : after.left ≡ before.left - waits_in own
 
--- A desk has made some events, of which none was told to wait.
-pub record MakesNoWait (before after : DeskView) : Type 0 where
+-- what a call for which a desk has made these events does to its tries
+abbrev pub SpendsTries : TriesLeft → DeskCall → List (Event × Told) → TriesLeft → Type 0
+SpendsTries before DeskCall.Begin own after = after ≡ tries_begun before
+SpendsTries before (DeskCall.Operation tx op) own after = SpendsByWaits (tries_called before) after own
+SpendsTries before (DeskCall.Commit tx) own after = after ≡ before
+SpendsTries before (DeskCall.Abort tx) own after = after ≡ before
+
+-- A desk has made steps of the transaction, or the cancel of its operation, of which none was told to wait.
+pub record StepsWithoutWait (tx : ℕ) (before after : DeskView) : Type 0 where
   pub own : List (Event × Told)
   pub made : HasMade before after own
+  pub each : All (IsStepOf tx) own
   pub none : waits_in own ≡ 0
 
--- what a call does to the tries
-abbrev pub SpendsTries : DeskView → DeskCall → DeskView → Type 0
-SpendsTries before DeskCall.Begin after = after.tries ≡ tries_begun before.tries
-SpendsTries before (DeskCall.Operation tx op) after =
-    SpendsByWaits (record before { tries = tries_called before.tries }) after
-SpendsTries before (DeskCall.Commit tx) after = after.tries ≡ before.tries
-SpendsTries before (DeskCall.Abort tx) after = after.tries ≡ before.tries
+-- A desk has made steps of the transaction, or the cancel of its operation, and has spent its tries by their waits.
+pub record StepsByTries (tx : ℕ) (before after : DeskView) : Type 0 where
+  pub own : List (Event × Told)
+  pub made : HasMade before after own
+  pub each : All (IsStepOf tx) own
+  pub spends : SpendsByWaits before.tries after.tries own
 
 -- The transaction is the youngest of a cycle of waits, which its own wait would close.
 pub record IsYoungestOfCycle (tx : ℕ) : Type 0 where

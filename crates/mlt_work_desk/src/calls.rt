@@ -7,7 +7,8 @@ ghost use Rattle.mlt_work_log.specs.Seats.{IsOf, begun_by, first_items};
 ghost use Rattle.mlt_script_serial.specs.declared.call.DeskCall.TheVariants as call;
 ghost use Rattle.mlt_event.specs.declared.event.Event.TheVariants as event;
 ghost use Rattle.mlt_work_desk.specs.Holds.{EndsWithOp, HasBegun, IfReply, IsToldTo, MayAnswerOperation, SeesAnswer, SeesEvent};
-ghost use Rattle.mlt_work_desk.specs.Tries.{GivesUp, IsYoungestOfCycle, MakesNoWait, SpendsByWaits, tries_of, tries_spent};
+ghost use Rattle.mlt_work_desk.specs.Acts.{EndsAbort, HasUndone};
+ghost use Rattle.mlt_work_desk.specs.Tries.{GivesUp, IsYoungestOfCycle, StepsByTries, StepsWithoutWait, tries_of, tries_spent};
 ghost use Rattle.mlt_work_desk.specs.Views.{HasMade, desk_view};
 
 use crate::called::Called;
@@ -244,7 +245,7 @@ impl<'a, P: Pseudo, L: MadeWith<P>, R: Wait, G: Gate> LockDesk<'a, P, L, R, G> {
             × IsToldTo P.bits_of (event.Cancel self.old.thread.tx) cancelled }
         ensures more { StartsWith (first_items self.new.snapshot) (first_items self.old.snapshot) }
         ensures begun { begun_by self.new.snapshot ≡ begun_by self.old.snapshot }
-        ensures made { MakesNoWait
+        ensures made { StepsWithoutWait self.old.thread.tx
             (desk_view self.old.snapshot self.old.tries self.old.share.amount)
             (desk_view self.new.snapshot self.new.tries self.new.share.amount) }
         ensures thread { self.new.thread ≡ self.old.thread }
@@ -268,7 +269,7 @@ impl<'a, P: Pseudo, L: MadeWith<P>, R: Wait, G: Gate> LockDesk<'a, P, L, R, G> {
             × IsToldTo P.bits_of (event.Cancel self.old.thread.tx) cancelled }
         ensures reason { result ≡ true → GivesUp self.old.thread.tx self.new.tries }
         ensures spent { self.new.tries ≡ tries_spent self.old.tries }
-        ensures made { MakesNoWait
+        ensures made { StepsWithoutWait self.old.thread.tx
             (desk_view self.old.snapshot self.old.tries self.old.share.amount)
             (desk_view self.new.snapshot self.new.tries self.new.share.amount) }
         ensures thread { self.new.thread ≡ self.old.thread }
@@ -295,7 +296,7 @@ impl<'a, P: Pseudo, L: MadeWith<P>, R: Wait, G: Gate> LockDesk<'a, P, L, R, G> {
             (answer_by DeskAnswer.Replied reply) (first_items self.new.snapshot)) }
         ensures more { StartsWith (first_items self.new.snapshot) (first_items self.old.snapshot) }
         ensures begun { begun_by self.new.snapshot ≡ begun_by self.old.snapshot }
-        ensures spends { SpendsByWaits
+        ensures made { StepsByTries self.old.thread.tx
             (desk_view self.old.snapshot self.old.tries self.old.share.amount)
             (desk_view self.new.snapshot self.new.tries self.new.share.amount) }
         ensures thread { self.new.thread ≡ self.old.thread }
@@ -331,7 +332,7 @@ impl<'a, P: Pseudo, L: MadeWith<P>, R: Wait, G: Gate> LockDesk<'a, P, L, R, G> {
             (call.Operation self.old.thread.tx self.old.thread.op)
             (answer_by DeskAnswer.Replied result) (first_items self.new.snapshot) }
         ensures begun { begun_by self.new.snapshot ≡ begun_by self.old.snapshot }
-        ensures spends { SpendsByWaits
+        ensures made { StepsByTries self.old.thread.tx
             (desk_view self.old.snapshot self.old.tries self.old.share.amount)
             (desk_view self.new.snapshot self.new.tries self.new.share.amount) }
     {
@@ -348,6 +349,10 @@ impl<'a, P: Pseudo, L: MadeWith<P>, R: Wait, G: Gate> LockDesk<'a, P, L, R, G> {
     /// come: the answer to the last one is that the transaction was aborted, or that the desk may not act for it.
     #[tactic(auto, using(crate::proofs::Seeing::sees_more))]
     fn undo_step(&mut self) -> bool
+        ensures made { (told : Told) × HasMade
+            (desk_view self.old.snapshot self.old.tries self.old.share.amount)
+            (desk_view self.new.snapshot self.new.tries self.new.share.amount)
+            ((event.Step self.old.thread.tx, told) ∷ []) × (result ≡ false → EndsAbort told) }
         ensures more { StartsWith (first_items self.new.snapshot) (first_items self.old.snapshot) }
         ensures begun { begun_by self.new.snapshot ≡ begun_by self.old.snapshot }
         ensures tx { self.new.thread.tx ≡ self.old.thread.tx }
@@ -363,6 +368,9 @@ impl<'a, P: Pseudo, L: MadeWith<P>, R: Wait, G: Gate> LockDesk<'a, P, L, R, G> {
 
     /// Steps of an abort, up to its end.
     fn undo(&mut self)
+        ensures made { HasUndone self.old.thread.tx
+            (desk_view self.old.snapshot self.old.tries self.old.share.amount)
+            (desk_view self.new.snapshot self.new.tries self.new.share.amount) }
         ensures more { StartsWith (first_items self.new.snapshot) (first_items self.old.snapshot) }
         ensures begun { begun_by self.new.snapshot ≡ begun_by self.old.snapshot }
         ensures tries { self.new.tries ≡ self.old.tries }

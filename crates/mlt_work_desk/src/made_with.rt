@@ -2,13 +2,16 @@
 
 ghost use Rattle.std.specs.Prelude.{Bool, false, Option, None};
 ghost use Rattle.mlt_work_desk.specs.Makings.{Making};
+ghost use Rattle.mlt_work_desk.specs.declared.tries.Tries.{Tries};
+ghost use Rattle.mlt_work_desk.specs.declared.tries.Tries.TheVariants.{PerScript};
 ghost use Rattle.mlt_work_log.specs.Seats.{LogId, no_log};
 
 use std::marker::Brand;
 use std::sync::ledger::Ledger;
 
 /// The ledger of the desks over a manager, with which limits and which function from keys to pseudokeys that was made, whether
-/// its history is handed out, and which log has it. No value of it is made: the caller that runs desks picks all of them.
+/// its history is handed out, which log has it, and which tries its desks are given. No value of it is made: the caller that runs desks
+/// picks all of them.
 pub trait MadeWith<P>: Ledger {
     /// The limits and the function.
     ghost made_with: { Option (Making P) };
@@ -16,6 +19,8 @@ pub trait MadeWith<P>: Ledger {
     ghost hands_out: { Bool };
     /// The log of the history.
     ghost log_id: { LogId };
+    /// The tries that the desks are given.
+    ghost tries: { Tries };
 }
 
 impl<P> MadeWith<P> for Brand {
@@ -24,4 +29,6 @@ impl<P> MadeWith<P> for Brand {
     ghost hands_out = { false };
 
     ghost log_id = { no_log };
+
+    ghost tries = { PerScript 0 };
 }

@@ -1,7 +1,7 @@
 //! The manager under its lock.
 
 ghost use Rattle.std.specs.Prelude.{◌≡◌, ◌-◌, ◌^◌, [], false, true, Some, min};
-ghost use Rattle.mlt_work_log.specs.Seats.{IsOf, begun_by, first_items, id_of};
+ghost use Rattle.mlt_work_log.specs.Seats.{IsOf, begun_by, id_of, seen_by};
 ghost use Rattle.mlt_work_desk.specs.Makings.{making_of};
 ghost use Rattle.mlt_work_desk.specs.Playing.{IsPlayed};
 
@@ -175,10 +175,10 @@ impl<P: Pseudo, L: MadeWith<P>> Shared<P, L> {
     pub fn copy_snapshot(&self, snapshot: &mut LogSnapshot) -> LogSnapshot
         requires { IsOf L.log_id snapshot.old }
         ensures of_log { IsOf L.log_id snapshot.new }
-        ensures same { first_items snapshot.new ≡ first_items snapshot.old }
+        ensures same { seen_by snapshot.new ≡ seen_by snapshot.old }
         ensures keeps { begun_by snapshot.new ≡ begun_by snapshot.old }
         ensures copy { IsOf L.log_id result }
-        ensures items { first_items result ≡ first_items snapshot.old }
+        ensures past { seen_by result ≡ seen_by snapshot.old }
         ensures begun { begun_by result ≡ [] }
     {
         self.log.copy(snapshot)

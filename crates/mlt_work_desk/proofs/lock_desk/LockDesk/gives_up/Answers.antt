@@ -1,8 +1,8 @@
 use Rattle.std.proofs.Common.{ap}
 use Rattle.mlt_work_log.specs.Seats.{seen_by}
-use Rattle.mlt_work_desk.proofs.Trying.{makes_nothing}
+use Rattle.mlt_work_desk.proofs.Trying.{without_steps}
 use Rattle.mlt_work_desk.proofs.lock_desk.LockDesk.gives_up.Goals as goal
 
 pub returns-else-gives_up-clause-made : goal.returns-else-gives_up-clause-made
 returns-else-gives_up-clause-made g c =
-    makes_nothing _ _ (ap seen_by c.spends_last_try-gives_up.ensures.snapshot) c.spends_last_try-gives_up.ensures.events
+    without_steps _ _ _ (ap seen_by c.spends_last_try-gives_up.ensures.snapshot) c.spends_last_try-gives_up.ensures.events

@@ -1,7 +1,7 @@
 use Rattle.std.proofs.Common.{rules, ◌≡◌, inl, inr, false, refl, subst, true}
 use Rattle.mlt_types.specs.declared.refusal.Refusal.TheVariants.{GaveUp}
 use Rattle.mlt_work_desk.proofs.Names.{Answer, Event, Told, DeskCall, first_items, EndsWithOp, IfReply, IsToldTo, SeesEvent, SleepingThread}
-use Rattle.mlt_work_desk.{specs.Tries.GivesUp, proofs.Seeing.more_than, proofs.Seeing.sees_more, proofs.Seeing.sees_refused, proofs.Seeing.sees_replied, proofs.Trying.spends_none, proofs.Trying.spends_one}
+use Rattle.mlt_work_desk.{specs.Tries.GivesUp, specs.Tries.StepsWithoutWait, specs.Views.desk_view, proofs.Seeing.more_than, proofs.Seeing.sees_more, proofs.Seeing.sees_refused, proofs.Seeing.sees_replied, proofs.Trying.spends_none, proofs.Trying.spends_one}
 use Rattle.mlt_work_waits.specs.Gates.{is_to_wait}
 use Rattle.mlt_work_desk.proofs.lock_desk.LockDesk.step.Goals as goal
 
@@ -76,60 +76,64 @@ returns-then-gives_up-clause-sees g c =
 pub returns-in-Answered-Going-clause-more : goal.returns-in-Answered-Going-clause-more
 returns-in-Answered-Going-clause-more g c = sees_more _ _ _ _ c.hold-told.ensures.sees
 
-pub returns-in-Answered-Going-clause-spends : goal.returns-in-Answered-Going-clause-spends
-returns-in-Answered-Going-clause-spends g c =
+pub returns-in-Answered-Going-clause-made : goal.returns-in-Answered-Going-clause-made
+returns-in-Answered-Going-clause-made g c =
     let not : is_to_wait c.hold-told.result.0 ≡ false = search rules in
     spends_none _ _ _ _ _ c.is_patient-self.result refl refl not c.hold-told.ensures.made c.hold-told.ensures.tries
 
 pub returns-in-Answered-Done-clause-more : goal.returns-in-Answered-Done-clause-more
 returns-in-Answered-Done-clause-more g c = sees_more _ _ _ _ c.hold-told.ensures.sees
 
-pub returns-in-Answered-Done-clause-spends : goal.returns-in-Answered-Done-clause-spends
-returns-in-Answered-Done-clause-spends g c =
+pub returns-in-Answered-Done-clause-made : goal.returns-in-Answered-Done-clause-made
+returns-in-Answered-Done-clause-made g c =
     let not : is_to_wait c.hold-told.result.0 ≡ false = search rules in
     spends_none _ _ _ _ _ c.is_patient-self.result refl refl not c.hold-told.ensures.made c.hold-told.ensures.tries
 
 pub returns-in-Answered-Refused-clause-more : goal.returns-in-Answered-Refused-clause-more
 returns-in-Answered-Refused-clause-more g c = sees_more _ _ _ _ c.hold-told.ensures.sees
 
-pub returns-in-Answered-Refused-clause-spends : goal.returns-in-Answered-Refused-clause-spends
-returns-in-Answered-Refused-clause-spends g c =
+pub returns-in-Answered-Refused-clause-made : goal.returns-in-Answered-Refused-clause-made
+returns-in-Answered-Refused-clause-made g c =
     let not : is_to_wait c.hold-told.result.0 ≡ false = search rules in
     spends_none _ _ _ _ _ c.is_patient-self.result refl refl not c.hold-told.ensures.made c.hold-told.ensures.tries
 
 pub returns-in-Answered-Done-2-clause-more : goal.returns-in-Answered-Done-2-clause-more
 returns-in-Answered-Done-2-clause-more g c = sees_more _ _ _ _ c.hold-told.ensures.sees
 
-pub returns-in-Answered-Done-2-clause-spends : goal.returns-in-Answered-Done-2-clause-spends
-returns-in-Answered-Done-2-clause-spends g c =
+pub returns-in-Answered-Done-2-clause-made : goal.returns-in-Answered-Done-2-clause-made
+returns-in-Answered-Done-2-clause-made g c =
     let not : is_to_wait c.hold-told.result.0 ≡ false = search rules in
     spends_none _ _ _ _ _ c.is_patient-self.result refl refl not c.hold-told.ensures.made c.hold-told.ensures.tries
 
 pub returns-in-Answered-Done-2-2-clause-more : goal.returns-in-Answered-Done-2-2-clause-more
 returns-in-Answered-Done-2-2-clause-more g c = sees_more _ _ _ _ c.hold-told.ensures.sees
 
-pub returns-in-Answered-Done-2-2-clause-spends : goal.returns-in-Answered-Done-2-2-clause-spends
-returns-in-Answered-Done-2-2-clause-spends g c =
+pub returns-in-Answered-Done-2-2-clause-made : goal.returns-in-Answered-Done-2-2-clause-made
+returns-in-Answered-Done-2-2-clause-made g c =
     let not : is_to_wait c.hold-told.result.0 ≡ false = search rules in
     spends_none _ _ _ _ _ c.is_patient-self.result refl refl not c.hold-told.ensures.made c.hold-told.ensures.tries
 
 pub returns-in-Answered-Done-2-3-clause-more : goal.returns-in-Answered-Done-2-3-clause-more
 returns-in-Answered-Done-2-3-clause-more g c = sees_more _ _ _ _ c.hold-told.ensures.sees
 
-pub returns-in-Answered-Done-2-3-clause-spends : goal.returns-in-Answered-Done-2-3-clause-spends
-returns-in-Answered-Done-2-3-clause-spends g c =
+pub returns-in-Answered-Done-2-3-clause-made : goal.returns-in-Answered-Done-2-3-clause-made
+returns-in-Answered-Done-2-3-clause-made g c =
     let not : is_to_wait c.hold-told.result.0 ≡ false = search rules in
     spends_none _ _ _ _ _ c.is_patient-self.result refl refl not c.hold-told.ensures.made c.hold-told.ensures.tries
 
-pub returns-then-gives_up-clause-spends : goal.returns-then-gives_up-clause-spends
-returns-then-gives_up-clause-spends g c =
+pub returns-then-gives_up-clause-made : goal.returns-then-gives_up-clause-made
+returns-then-gives_up-clause-made g c =
     let waits : is_to_wait c.hold-told.result.0 ≡ true = search rules in
-    spends_one _ _ _ _ _ _ c.is_patient-self.result refl refl waits c.hold-told.ensures.made c.hold-told.ensures.tries c.gives_up.ensures.made c.gives_up.ensures.spent
+    let held = desk_view c.hold-told.new.self.snapshot c.hold-told.new.self.tries c.hold-told.new.self.share.amount in
+    let last = desk_view c.gives_up.new.self.snapshot c.gives_up.new.self.tries c.gives_up.new.self.share.amount in
+    spends_one c.args.self.now.thread.tx _ _ _ _ _ c.is_patient-self.result refl refl waits c.hold-told.ensures.made c.hold-told.ensures.tries (subst (λ (s : SleepingThread). StepsWithoutWait s.tx held last) c.hold-told.ensures.thread c.gives_up.ensures.made) c.gives_up.ensures.spent
 
 pub returns-else-gives_up-clause-more : goal.returns-else-gives_up-clause-more
 returns-else-gives_up-clause-more g c = more_than _ (first_items c.hold-told.new.self.snapshot) _ c.gives_up.ensures.more (sees_more _ _ _ _ c.hold-told.ensures.sees)
 
-pub returns-else-gives_up-clause-spends : goal.returns-else-gives_up-clause-spends
-returns-else-gives_up-clause-spends g c =
+pub returns-else-gives_up-clause-made : goal.returns-else-gives_up-clause-made
+returns-else-gives_up-clause-made g c =
     let waits : is_to_wait c.hold-told.result.0 ≡ true = search rules in
-    spends_one _ _ _ _ _ _ c.is_patient-self.result refl refl waits c.hold-told.ensures.made c.hold-told.ensures.tries c.gives_up.ensures.made c.gives_up.ensures.spent
+    let held = desk_view c.hold-told.new.self.snapshot c.hold-told.new.self.tries c.hold-told.new.self.share.amount in
+    let last = desk_view c.gives_up.new.self.snapshot c.gives_up.new.self.tries c.gives_up.new.self.share.amount in
+    spends_one c.args.self.now.thread.tx _ _ _ _ _ c.is_patient-self.result refl refl waits c.hold-told.ensures.made c.hold-told.ensures.tries (subst (λ (s : SleepingThread). StepsWithoutWait s.tx held last) c.hold-told.ensures.thread c.gives_up.ensures.made) c.gives_up.ensures.spent

@@ -1,6 +1,6 @@
 use Rattle.std.proofs.Common.{◌≡◌}
-use Rattle.mlt_work_desk.proofs.Names.{StartsWith, first_items, SpendsByWaits}
-use Rattle.mlt_work_desk.specs.Views.{desk_view}
+use Rattle.mlt_work_desk.proofs.Names.{StartsWith, first_items}
+use Rattle.mlt_work_desk.specs.{Tries.StepsByTries, Views.desk_view}
 use Rattle.mlt_work_log.specs.Seats.{begun_by}
 use Rattle.mlt_work_desk.proofs.lock_desk.LockDesk.steps.Given as goal
 
@@ -8,6 +8,6 @@ use Rattle.mlt_work_desk.proofs.lock_desk.LockDesk.steps.Given as goal
 abbrev pub invariant-loop : goal.invariant-loop
 invariant-loop g l = StartsWith (first_items l.self.snapshot) (first_items l.initial.self.snapshot)
     × (l.self.thread ≡ l.initial.self.thread)
-    × SpendsByWaits (desk_view l.initial.self.snapshot l.initial.self.tries l.initial.self.share.amount)
+    × StepsByTries l.initial.self.thread.tx (desk_view l.initial.self.snapshot l.initial.self.tries l.initial.self.share.amount)
     (desk_view l.self.snapshot l.self.tries l.self.share.amount)
     × (begun_by l.self.snapshot ≡ begun_by l.initial.self.snapshot)
