@@ -8,9 +8,9 @@ use Rattle.mlt_script_serial.specs.declared.call.DeskAnswer.TheVariants.{Begun, 
 use Rattle.mlt_serve_session.{proofs.Giving.IsOpenOrNone, specs.Desks.Answers, specs.Desks.Moved}
 use Rattle.mlt_serve_session.specs.Outcomes.{all_done, before_next, begins_by, begun_in, call_of, done_in, outcome_behind, outcome_if, outcomes_of, up_to}
 use Rattle.mlt_serve_session.specs.Talks.{Turn, answers_in, call_alone, call_for, call_within, calls_in, closing, closing_answers, ends, one_turn, open_after, option_list, turns}
-use Rattle.mlt_work_desk.proofs.Seeing.{no_more}
+use Rattle.mlt_work_desk.proofs.{Seeing.no_more, Subsequences.behind_more, Subsequences.both_parts}
 use Rattle.mlt_serve.specs.Tellings.{txs_of}
-use Rattle.mlt_serve.proofs.{Subsequences.behind_more, Subsequences.both_parts, Subsequences.has_op, Telling.moves_of, Telling.run_more}
+use Rattle.mlt_serve.proofs.{Operations.has_op, Telling.moves_of, Telling.run_more}
 
 -- ---- turns
 

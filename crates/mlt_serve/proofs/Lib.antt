@@ -6,7 +6,8 @@ pub mod Merging
 pub mod Lining
 pub mod Loading
 pub mod Numbering
+pub mod Operations
 pub mod Receiving
 pub mod Sorting
-pub mod Subsequences
 pub mod Telling
+pub mod Viewing

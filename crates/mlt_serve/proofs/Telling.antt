@@ -1,18 +1,12 @@
 -- A history tells all that is in outcomes, as it grows, and as others come behind them.
-use Rattle.std.proofs.Common.{◌≡◌, ◌++◌, append-nil, refl, List, [], ◌∷◌, All, ℕ, ap, subst, sym, get_or, Contains, IsPermutation}
+use Rattle.std.proofs.Common.{◌≡◌, ◌++◌, List, [], ◌∷◌, All, ℕ, ap, subst, sym, get_or, Contains, IsPermutation}
 use Rattle.std.proofs.lemmas.{Grind.merely, List.Elements.Contains-append_left, List.Elements.Contains-append_right}
 use Rattle.mlt_serve.proofs.Names.{All-append, All-nil, All-weaker, All-permutation, TraceItem, Outcome, Moves, StartsWith, GrowsFor, TellsOutcomes, DeskAnswer, DeskCall, ops_of-append, ops_of, IsSubsequence}
 use mathlib.Core.Logic.{∥∥₁_map}
 use Rattle.mlt_script_serial.specs.declared.outcome.End.{End}
-use Rattle.mlt_types.specs.declared.refusal.Refusal.{Refusal}
 use Rattle.mlt_serve_session.specs.{Desks.Answers, Given.Gave, Given.GaveAll, Given.GaveEnd}
-use Rattle.mlt_work_desk.{specs.Holds.Begins, specs.Holds.SeesAnswer, proofs.Seeing.more_than, proofs.Seeing.no_more}
-use Rattle.mlt_serve.{proofs.Subsequences.before_more, specs.Tellings.TellsAll, specs.Tellings.TellsEnd, specs.Tellings.TellsOutcome}
-
--- at a begin that was refused a desk has seen no more, and has begun nothing
-pub refused_begin : (items : List TraceItem) (begun : List ℕ) (r : Refusal)
-    → SeesAnswer items DeskCall.Begin (DeskAnswer.Refused r) items × Begins begun DeskCall.Begin (DeskAnswer.Refused r) begun
-refused_begin items begun r = (record { more = []; whole = sym (append-nil items); have = tt }, refl)
+use Rattle.mlt_work_desk.{specs.Holds.Begins, specs.Holds.SeesAnswer, proofs.Seeing.more_than, proofs.Seeing.no_more, proofs.Subsequences.before_more}
+use Rattle.mlt_serve.{specs.Tellings.TellsAll, specs.Tellings.TellsEnd, specs.Tellings.TellsOutcome}
 
 module _ {D : Type 0} (view : D → List TraceItem) (begun : D → List ℕ) where
   -- how a desk moves, by what it has seen of the history, and has begun

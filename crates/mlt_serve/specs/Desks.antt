@@ -1,8 +1,8 @@
 -- Desks of sessions, at which a begin may be refused though no event of the manager was.
-use Rattle.std.specs.Prelude.{ℕ, ◌≡◌, ◌⊎◌, List, Option, Result}
+use Rattle.std.specs.Prelude.{ℕ, ◌≡◌, ◌⊎◌, List, Result, All}
 use Rattle.mlt_types.specs.declared.refusal.Refusal.{Refusal}
 use Rattle.mlt_script_serial.specs.declared.{call.DeskAnswer.DeskAnswer, call.DeskCall.DeskCall, outcome.Outcome.Outcome}
-use Rattle.mlt_serve_session.specs.{Sessions.Scene, Sessions.SessionAnswers, Sessions.scene, declared.sessions.Summary.Summary}
+use Rattle.mlt_serve_session.specs.{Given.GaveAll, Sessions.Scene, Sessions.SessionAnswers, Sessions.scene, declared.sessions.Summary.Summary}
 use Rattle.mlt_work_desk.specs.{Holds.Answers, Tries.tries_of, Views.DeskView, Views.desk_view, declared.tries.Tries.Tries}
 use Rattle.mlt_work_log.specs.{Seats.begun_by, Seats.seen_by, declared.seats.LogSnapshot.LogSnapshot}
 use Rattle.mlt_serve.specs.Loads.{Ends}
@@ -17,6 +17,20 @@ pub record IsHeldBack (before : DeskView) (asked : DeskCall) (given : DeskAnswer
 abbrev pub AnswersOrHolds : {P : Type 0} → (P → ℕ → ℕ) → DeskView → DeskCall → DeskAnswer → DeskView → Type 0
 AnswersOrHolds bits_of before asked given after = Answers bits_of before asked given after ⊎ IsHeldBack before asked given after
 
+-- Such a desk, which was given these tries, has told all that is in the outcome.
+pub record IsGiven {P : Type 0} (bits_of : P → ℕ → ℕ) (tries : Tries) (o : Outcome) : Type 0 where
+  pub desk : DeskView
+  pub given : desk.tries.given ≡ tries
+  pub gave : GaveAll (AnswersOrHolds bits_of) desk o
+
+-- there is such a desk for the outcome
+abbrev pub WasGiven : {P : Type 0} → (P → ℕ → ℕ) → Tries → Outcome → Type 0
+WasGiven bits_of tries o = ∥ IsGiven bits_of tries o ∥₁
+
+-- there is one for each of these
+abbrev pub AreGiven : {P : Type 0} → (P → ℕ → ℕ) → Tries → List Outcome → Type 0
+AreGiven bits_of tries outcomes = All (WasGiven bits_of tries) outcomes
+
 -- what a session reads and writes, and the outcomes that it adds to, with the view of its desk
 abbrev pub scene_at : DeskView → Ends → List Outcome → Scene DeskView
 scene_at desk ends outcomes = scene desk ends.unread ends.written outcomes
@@ -28,6 +42,5 @@ pub record IsSessionAt {P : Type 0} (bits_of : P → ℕ → ℕ) (tries : Tries
   pub desk : DeskView
   pub past : desk.past ≡ seen_by last
   pub begun : desk.begun ≡ begun_by last
-  pub given : desk.tries.given ≡ tries
   pub answers : SessionAnswers (AnswersOrHolds bits_of) client (scene_at (desk_view first (tries_of tries) 0) old before)
       (scene_at desk new after) result

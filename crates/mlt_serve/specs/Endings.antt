@@ -1,5 +1,5 @@
 -- What is answered of how the accepting ended, and why a server refuses to answer what it has done.
-use Rattle.std.specs.Prelude.{◌≡◌, ◌⊎◌, Bool, false, true, Result, Ok, Err, IfErr, IsOk, IsOkUnless}
+use Rattle.std.specs.Prelude.{ℕ, ◌≡◌, ◌≤◌, ◌⊎◌, Bool, false, true, Result, Ok, Err, IfErr, IsOk, IsOkUnless}
 use Rattle.mlt_types.specs.declared.refusal.Refusal.{Refusal}
 use Rattle.mlt_serve_seats.specs.declared.note.ListenerEnd.{ListenerEnd}
 
@@ -14,6 +14,12 @@ result_of_accepting ListenerEnd.Memory = Err Refusal.OutOfMemory
 abbrev pub is_limit : ListenerEnd → Bool
 is_limit (ListenerEnd.Limit _) = true
 is_limit other = false
+
+-- The accepting ended without a fault, having taken so many: where that was since as many were taken as may be, these are all.
+pub record HasAccepted (limit connections : ℕ) (end : ListenerEnd) : Type 0 where
+  pub faultless : result_of_accepting end ≡ Ok tt
+  pub few : connections ≤ limit
+  pub whole : is_limit end ≡ true → connections ≡ limit
 
 -- The result is refused where the accepting ended by a fault, for that; else where a growth was refused; else where, if at all, what was
 -- served does not agree.

@@ -1,4 +1,5 @@
 pub mod Clients
+pub mod Desks
 pub mod Threads
 pub mod Endings
 pub mod Loads

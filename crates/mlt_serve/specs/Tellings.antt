@@ -1,14 +1,10 @@
 -- Histories that tell all that is in outcomes.
-use Rattle.std.specs.Prelude.{◌≡◌, ◌≤◌, ℕ, List, [], ◌∷◌, ◌++◌, All, Contains, map}
+use Rattle.std.specs.Prelude.{◌≡◌, ◌≤◌, ℕ, List, All, Contains, map}
 use Rattle.mlt_trace.specs.{Numbers.begun_txs, declared.item.TraceItem.TraceItem}
 use Rattle.mlt_script_serial.specs.declared.outcome.{End.End, Outcome.Outcome}
 use Rattle.mlt_trace_audit.specs.{Agreement.count_of, Outcomes.ops_of}
 use Rattle.mlt_work_log.specs.Prefixes.{times}
-
--- the first list is what is left of the other one without some of its elements
-abbrev pub IsSubsequence : {X : Type 0} → List X → List X → Type 0
-IsSubsequence [] ys = Unit {0}
-IsSubsequence {X} (x ∷ xs) ys = (skipped : List X) × (rest : List X) × (ys ≡ skipped ++ x ∷ rest) × IsSubsequence xs rest
+use Rattle.mlt_work_desk.specs.Views.{IsSubsequence}
 
 -- the transactions of the outcomes, in their order
 abbrev pub txs_of : List Outcome → List ℕ

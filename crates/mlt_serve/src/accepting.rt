@@ -41,6 +41,18 @@ pub(crate) struct Accepting {
 }
 
 impl Accepting {
+    /// Whether no more were accepted than the limit says, and as many where it ended by that.
+    pub(crate) fn is_within(self, limit: u64) -> bool
+        ensures few { result ≡ true → self.connections ≤ limit }
+        ensures whole { result ≡ true → is_limit self.end ≡ true
+            → self.connections ≡ limit }
+    {
+        match self.end {
+            ListenerEnd::Limit(_) => self.connections == limit,
+            _ => self.connections <= limit,
+        }
+    }
+
     /// What is answered of it.
     ///
     /// # Errors

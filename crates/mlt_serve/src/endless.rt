@@ -4,16 +4,19 @@ ghost use Rattle.std.specs.Prelude.{◌≡◌, ◌<◌, ◌≤◌, IfErr, IfOk, 
 ghost use Rattle.mlt_manager.specs.Openings.{IsMadeWith};
 ghost use Rattle.mlt_serve_session.specs.Tallies.{commits_told};
 ghost use Rattle.mlt_serve.specs.Clients.{AreOfClients};
-ghost use Rattle.mlt_serve.specs.Endings.{IsOfServer};
+ghost use Rattle.mlt_serve.specs.Desks.{AreGiven};
+ghost use Rattle.mlt_serve.specs.Endings.{HasAccepted, IsOfServer};
 ghost use Rattle.mlt_serve.specs.Loads.{HasLoaded};
 ghost use Rattle.mlt_serve.specs.Tellings.{HaveCloses, TellsOutcomes};
 ghost use Rattle.mlt_trace_audit.specs.Agreement.{NumbersAgree};
+ghost use Rattle.mlt_work_desk.specs.declared.tries.Tries.TheVariants.{PerOperation};
 
 use crate::operating::{EndSignal, Operating, TraceFile};
 use crate::options::ServeOptions;
 use crate::serving::{Ended, serve_with};
 use crate::tallying::tally_of;
 use mlt_manager::Manager;
+use mlt_serve_seats::ListenerEnd;
 use mlt_serve_session::Tally;
 use mlt_types::{Pseudo, Refusal};
 use mlt_work_desk::BlankRecords;
@@ -35,6 +38,8 @@ pub struct ServedEndless<P: Pseudo> {
     pub manager: Manager<P>,
     /// How many connections were accepted, and served.
     pub connections: u64,
+    /// How the accepting ended: by the limit, or since the server was to end.
+    pub end: ListenerEnd,
     /// Why the trace was not written whole, if so.
     pub trace_failure: Option<io::Error>,
 }
@@ -79,16 +84,21 @@ where
     // replies, in order, and its commit
     ensures told { IfOk result
         (λ got. TellsOutcomes got.manager.shared.history.items got.tally.told.items) }
+    // each was told at a desk with the tries of the options for each operation
+    ensures given { IfOk result
+        (λ got. AreGiven P.bits_of (PerOperation options.now.tries) got.tally.told.items) }
     // no two outcomes are of one transaction, and each that was begun has one
     ensures numbers { IfOk result
         (λ got. NumbersAgree got.tally.told.items got.manager.shared.history.items) }
     // the history has the commit of an outcome, or else its abort
     ensures closes { IfOk result
         (λ got. HaveCloses got.manager.shared.history.items got.tally.told.items) }
-    // each outcome was that of one of the connections, which are no more than the options say
+    // each outcome was that of one of the connections
     ensures clients { IfOk result
         (λ got. AreOfClients got.connections got.tally.told.items) }
-    ensures few { IfOk result (λ got. got.connections ≤ options.now.connections) }
+    // these are no more than the options say, and as many where the accepting ended by that
+    ensures ended { IfOk result
+        (λ got. HasAccepted options.now.connections got.connections got.end) }
     // if there is a base to load, connection 1 heard all lines of it and was told just its answers, and its outcomes are among these
     ensures loaded { IfOk result (λ got. HasLoaded operating.entry.load got.tally.told.items) }
     ensures refusal { IfErr result IsOfServer }
@@ -112,6 +122,7 @@ where
             tally,
             manager,
             connections: ran.accepting.connections,
+            end: ran.accepting.end,
             trace_failure: ran.trace_failure,
         }),
         Err(refusal) => {

@@ -3,7 +3,8 @@
 ghost use Rattle.std.specs.Prelude.{◌≡◌, ◌+◌, ◌-◌, ◌*◌, ◌^◌, ◌≤◌, ◌++◌, [], IfErr, IfOk, IsPermutation, OnOk, false, min, vec_len};
 ghost use Rattle.mlt_work_log.specs.Seats.{IsOf, IsWriterOf, begun_by, id_of, past_of};
 ghost use Rattle.mlt_serve.specs.Clients.{AreOfClients};
-ghost use Rattle.mlt_serve.specs.Endings.{IsOfServer, IsRefusedFor};
+ghost use Rattle.mlt_serve.specs.Desks.{AreGiven};
+ghost use Rattle.mlt_serve.specs.Endings.{HasAccepted, IsOfServer, IsRefusedFor};
 ghost use Rattle.mlt_serve.specs.Tellings.{HasBegunAll, HaveBegun, TellsOutcomes};
 ghost use Rattle.mlt_serve.specs.Threads.{AllHaveMemory, all_outcomes};
 
@@ -78,7 +79,7 @@ impl<K: Receipts + Drop> Gathered<K> {
 
     /// Takes in what one thread has served, the whole its share, and the snapshot what its desks have begun. The manager's history tells
     /// all that is in the outcomes.
-    #[tactic(auto, using(crate::proofs::Numbering::gathered))]
+    #[tactic(auto, using(crate::proofs::Numbering::gathered, crate::proofs::Receiving::both_given))]
     fn take_in<P: Pseudo, L: MadeWith<P>>(
         &mut self,
         all: &mut Share<L>,
@@ -100,6 +101,9 @@ impl<K: Receipts + Drop> Gathered<K> {
         ensures clients { self.new.is_short ≡ false
             → AreOfClients self.old.last (K.receipts self.old.outcomes)
             → AreOfClients self.new.last (K.receipts self.new.outcomes) }
+        ensures given { self.new.is_short ≡ false
+            → AreGiven P.bits_of L.tries (K.receipts self.old.outcomes)
+            → AreGiven P.bits_of L.tries (K.receipts self.new.outcomes) }
         ensures manager { desks.new.state.manager ≡ desks.old.state.manager }
         ensures told { self.new.is_short ≡ false
             → TellsOutcomes desks.old.state.manager.shared.history.items
@@ -122,11 +126,11 @@ impl<K: Receipts + Drop> Gathered<K> {
     ///
     /// # Errors
     /// Why the accepting ended by a fault; else `OutOfMemory`, where a growth was refused; else `Audit`, where not as many connections
-    /// were served as were accepted, or more than the limit says.
+    /// were served as were accepted, or more than the limit says, or fewer where it ended by that.
     pub(crate) fn served(&self, accepting: Accepting, limit: u64) -> Result<u64, Refusal>
         ensures accepted { IfOk result (λ count. count ≡ accepting.connections) }
         ensures served { IfOk result (λ count. self.now.connections ≡ count) }
-        ensures few { IfOk result (λ count. count ≤ limit) }
+        ensures ended { IfOk result (λ count. HasAccepted limit count accepting.end) }
         ensures whole { OnOk result (self.now.is_short ≡ false) }
         ensures why { IsRefusedFor accepting.end self.now.is_short result }
         ensures refusal { IfErr result IsOfServer }
@@ -136,7 +140,7 @@ impl<K: Receipts + Drop> Gathered<K> {
             return Err(Refusal::OutOfMemory);
         }
         let count = accepting.connections;
-        if count > limit || self.connections != count {
+        if !accepting.is_within(limit) || self.connections != count {
             return Err(Refusal::Audit);
         }
         Ok(count)
@@ -145,6 +149,7 @@ impl<K: Receipts + Drop> Gathered<K> {
 
 /// Takes in what the loader and all threads have served, and the whole their shares. Unless a growth was refused, no outcome is missing.
 /// The manager's history tells all that is in the outcomes, and has a begin for each.
+#[tactic(auto, using(crate::proofs::Receiving::none_given))]
 pub(crate) fn gather<P: Pseudo, L: MadeWith<P>, K: Receipts + Drop>(
     alloc: Global,
     all: &mut Share<L>,
@@ -161,6 +166,8 @@ pub(crate) fn gather<P: Pseudo, L: MadeWith<P>, K: Receipts + Drop>(
         (K.receipts result.outcomes) }
     ensures clients { result.is_short ≡ false
         → AreOfClients result.last (K.receipts result.outcomes) }
+    ensures given { result.is_short ≡ false
+        → AreGiven P.bits_of L.tries (K.receipts result.outcomes) }
     ensures manager { desks.new.state.manager ≡ desks.old.state.manager }
     ensures told { result.is_short ≡ false
         → TellsOutcomes desks.old.state.manager.shared.history.items

@@ -15,13 +15,12 @@ pub(crate) struct GuardedDesk<'a, 'b, P: Pseudo, L: MadeWith<P>, R: Wait, G: Gat
 }
 
 impl<P: Pseudo, L: MadeWith<P>, R: Wait, G: Gate> Answering for GuardedDesk<'_, '_, P, L, R, G> {
-    ghost use Rattle.mlt_work_desk.specs.Holds.{Begins, SeesAnswer};
-    ghost use Rattle.mlt_work_log.specs.Seats.{begun_by, first_items};
+    ghost use Rattle.mlt_work_desk.specs.Views.{desk_view};
+    ghost use Rattle.mlt_serve.specs.Desks.{AnswersOrHolds};
 
-    // what the desk has seen of the history has each answer, and the desk has begun what it says
-    ghost moves = { λ old call answer new. SeesAnswer (first_items old.desk.snapshot) call answer
-        (first_items new.desk.snapshot)
-        × Begins (begun_by old.desk.snapshot) call answer (begun_by new.desk.snapshot) };
+    ghost moves = { λ old call answer new. AnswersOrHolds P.bits_of
+        (desk_view old.desk.snapshot old.desk.tries old.desk.share.amount) call
+        answer (desk_view new.desk.snapshot new.desk.tries new.desk.share.amount) };
 
     fn operation(&mut self, tx: TxId, op: ObjOp) -> Result<ObjReply, Refusal> {
         self.desk.operation(tx, op)
@@ -29,7 +28,7 @@ impl<P: Pseudo, L: MadeWith<P>, R: Wait, G: Gate> Answering for GuardedDesk<'_, 
 }
 
 impl<P: Pseudo, L: MadeWith<P>, R: Wait, G: Gate> Desk for GuardedDesk<'_, '_, P, L, R, G> {
-    #[tactic(auto, using(crate::proofs::Telling::refused_begin))]
+    #[tactic(auto, using(crate::proofs::Viewing::held_back))]
     fn begin(&mut self) -> Result<TxId, Refusal> {
         if self.refuses_begins.load(Ordering::Relaxed) {
             return Err(Refusal::OutOfMemory);

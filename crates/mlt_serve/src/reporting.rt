@@ -3,7 +3,7 @@
 ghost use Rattle.std.specs.Prelude.{◌≡◌, ◌≤◌, ◌↔◌, IfErr, IfOk, IsPermutation, IsTrue, OnOk, [], false};
 ghost use Rattle.mlt_trace_audit.specs.Agreement.{Agrees};
 ghost use Rattle.mlt_serve.specs.Clients.{AreByClientAndNumber, AreNumbered, AreOfClients, ComesNext, IsOfClient};
-ghost use Rattle.mlt_serve.specs.Endings.{IsOfServer, IsRefusedFor};
+ghost use Rattle.mlt_serve.specs.Endings.{HasAccepted, IsOfServer, IsRefusedFor};
 
 use crate::accepting::Accepting;
 use crate::gathering::Gathered;
@@ -71,7 +71,8 @@ pub(crate) fn outcomes_of<P: Pseudo>(
     ensures agrees { IfOk result (λ outcomes. Agrees outcomes manager.now.shared.history.items) }
     ensures clients { IfOk result (λ outcomes. AreOfClients accepting.connections outcomes) }
     ensures order { IfOk result (λ outcomes. AreNumbered 0 0 outcomes) }
-    ensures few { IfOk result (λ _. accepting.connections ≤ limit) }
+    ensures ended { IfOk result
+        (λ _. HasAccepted limit accepting.connections accepting.end) }
     ensures served { IfOk result (λ _. gathered.connections ≡ accepting.connections) }
     ensures whole { OnOk result (gathered.is_short ≡ false) }
     ensures why { IsRefusedFor accepting.end gathered.is_short result }

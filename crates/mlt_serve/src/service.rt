@@ -1,6 +1,7 @@
 //! What the sessions of a server have in common.
 
 ghost use Rattle.std.specs.Prelude.{◌≡◌, None, Some, false, true};
+ghost use Rattle.mlt_work_desk.specs.declared.tries.Tries.TheVariants.{PerOperation};
 
 use crate::door::Door;
 use crate::options::ServeOptions;
@@ -35,6 +36,7 @@ pub(crate) struct Service<'a, P: Pseudo, L: MadeWith<P>> {
     /// Whether no transaction begins, since too much waits for the trace.
     pub(crate) refuses_begins: &'a AtomicBool,
     ghost endless: { is_endless ≡ true → L.hands_out ≡ true },
+    ghost tries: { PerOperation options.now.tries ≡ L.tries },
 }
 
 impl<P: Pseudo, L: MadeWith<P>> Service<'_, P, L> {

@@ -5,9 +5,11 @@ ghost use Rattle.mlt_manager.specs.Openings.{IsMadeWith};
 ghost use Rattle.mlt_work_log.specs.Seats.{id_of};
 ghost use Rattle.mlt_work_desk.specs.Makings.{making_by};
 ghost use Rattle.mlt_work_desk.specs.Playing.{IsPlayed};
+ghost use Rattle.mlt_work_desk.specs.declared.tries.Tries.TheVariants.{PerOperation};
 ghost use Rattle.mlt_trace_audit.specs.Agreement.{Agrees};
 ghost use Rattle.mlt_serve.specs.Clients.{AreNumbered, AreOfClients};
-ghost use Rattle.mlt_serve.specs.Endings.{IsOfServer};
+ghost use Rattle.mlt_serve.specs.Desks.{AreGiven};
+ghost use Rattle.mlt_serve.specs.Endings.{HasAccepted, IsOfServer};
 ghost use Rattle.mlt_serve.specs.Loads.{HasLoaded};
 ghost use Rattle.mlt_serve.specs.Tellings.{HaveBegun, TellsOutcomes};
 
@@ -22,7 +24,7 @@ use crate::threads_beside::Ran;
 use mlt_manager::Manager;
 use mlt_script_serial::{Outcome, Outcomes};
 use mlt_serve_connections::{SpinPolicy, session_queue};
-use mlt_serve_seats::{Notes, Seats};
+use mlt_serve_seats::{ListenerEnd, Notes, Seats};
 use mlt_serve_session::Receipts;
 use mlt_types::{Pseudo, Refusal};
 use mlt_work_desk::{BlankRecords, LockedState, MadeWith, Shared};
@@ -45,6 +47,8 @@ pub struct Served<P: Pseudo> {
     pub manager: Manager<P>,
     /// How many connections were accepted, and served.
     pub connections: u64,
+    /// How the accepting ended: by the limit, or since the server was to end.
+    pub end: ListenerEnd,
     /// Why the trace was not written whole, if so.
     pub trace_failure: Option<io::Error>,
 }
@@ -88,6 +92,7 @@ where
     requires log { id_of records.log ≡ L.log_id }
     requires made { Some (making_by options.now.limits pseudo) ≡ L.made_with }
     requires endless { is_endless ≡ true → L.hands_out ≡ true }
+    requires tries { PerOperation options.now.tries ≡ L.tries }
     requires all { records.blank.parts ≡ 131 }
     requires some { 0 < options.now.sessions }
     requires most { options.now.sessions ≤ 64 }
@@ -99,6 +104,9 @@ where
     ensures events { IfOk result (λ ended. ended.manager.events ≡ ended.gathered.events) }
     ensures clients { IfOk result (λ ended. ended.gathered.is_short ≡ false
         → AreOfClients ended.gathered.last (K.receipts ended.gathered.outcomes)) }
+    ensures given { IfOk result (λ ended. ended.gathered.is_short ≡ false
+        → AreGiven P.bits_of (PerOperation options.now.tries)
+        (K.receipts ended.gathered.outcomes)) }
     ensures told { IfOk result (λ ended. ended.gathered.is_short ≡ false
         → TellsOutcomes ended.manager.shared.history.items
         (K.receipts ended.gathered.outcomes)) }
@@ -181,7 +189,7 @@ where
 /// was refused, in a session too, or the base was not loaded. Either ends the accepting, and the connections that were taken are served. `Audit`, where
 /// neither came, and the outcomes do not agree with the manager's history or not all connections were served. All threads are
 /// joined but those that write notes and the trace: they are waited for 5 seconds at most, and have nothing of the others.
-#[tactic(auto, using(crate::proofs::Loading::reordered))]
+#[tactic(auto, using(crate::proofs::Loading::reordered, crate::proofs::Receiving::reordered_given))]
 pub fn serve_on<P: Pseudo + Drop + Send, R, N, T, S>(
     rt: &R,
     alloc: Global,
@@ -206,9 +214,14 @@ where
     // what clients were told is what the manager has done
     ensures outcomes { IfOk result
         (λ got. Agrees got.outcomes got.manager.shared.history.items) }
-    // each outcome is that of one of the connections, which are no more than the options say
+    // each was told at a desk with the tries of the options for each operation
+    ensures given { IfOk result
+        (λ got. AreGiven P.bits_of (PerOperation options.now.tries) got.outcomes) }
+    // each outcome is that of one of the connections
     ensures clients { IfOk result (λ got. AreOfClients got.connections got.outcomes) }
-    ensures few { IfOk result (λ got. got.connections ≤ options.now.connections) }
+    // these are no more than the options say, and as many where the accepting ended by that
+    ensures ended { IfOk result
+        (λ got. HasAccepted options.now.connections got.connections got.end) }
     // they stand by client, and those of each client have the numbers 1, 2, 3 and so on
     ensures order { IfOk result (λ got. AreNumbered 0 0 got.outcomes) }
     // if there is a base to load, connection 1 heard all lines of it and was told just its answers, and its outcomes are among these
@@ -240,6 +253,7 @@ where
             outcomes,
             manager,
             connections: ran.accepting.connections,
+            end: ran.accepting.end,
             trace_failure: ran.trace_failure,
         }),
         Err(refusal) => {

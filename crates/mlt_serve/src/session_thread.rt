@@ -2,8 +2,10 @@
 
 ghost use Rattle.std.specs.Prelude.{◌≡◌, ◌≤◌, ◌+◌, ◌-◌, ◌^◌, [], Err, IfSome, IsOk, None, OnOk, Some, false, min, true};
 ghost use Rattle.mlt_serve.specs.Clients.{AreOfClients, GrowsFor};
+ghost use Rattle.mlt_serve.specs.Desks.{AreGiven, IsSessionAt};
 ghost use Rattle.mlt_serve.specs.Loads.{Heard, IsHeard, ends};
 ghost use Rattle.mlt_serve.specs.Tellings.{TellsOutcomes, txs_of};
+ghost use Rattle.mlt_work_desk.specs.declared.tries.Tries.TheVariants.{PerOperation};
 ghost use Rattle.mlt_work_log.specs.Prefixes.{StartsWith};
 ghost use Rattle.mlt_work_log.specs.Seats.{IsOf, IsWriterOf, begun_by, first_items, id_of, past_of};
 
@@ -53,11 +55,12 @@ pub(crate) struct SessionThread<P: Pseudo, L: MadeWith<P>, K: Receipts> {
     ghost of_log: { IsOf L.log_id snapshot },
     ghost told: { TellsOutcomes (first_items snapshot) (K.receipts outcomes) },
     ghost begun: { begun_by snapshot ≡ txs_of (K.receipts outcomes) },
+    ghost given: { AreGiven P.bits_of L.tries (K.receipts outcomes) },
 }
 
 impl<P: Pseudo, L: MadeWith<P>, K: Receipts + Drop> SessionThread<P, L, K> {
     /// Nothing was served yet. It takes two parts of the ledger.
-    #[tactic(auto, using(crate::proofs::Counting::none_begun_yet, crate::proofs::Numbering::none_of, crate::proofs::Telling::none_told))]
+    #[tactic(auto, using(crate::proofs::Counting::none_begun_yet, crate::proofs::Numbering::none_of, crate::proofs::Receiving::none_given, crate::proofs::Telling::none_told))]
     pub(crate) fn new(
         alloc: Global,
         all: &mut Share<L>,
@@ -87,8 +90,8 @@ impl<P: Pseudo, L: MadeWith<P>, K: Receipts + Drop> SessionThread<P, L, K> {
         }
     }
 
-    /// Serves a client by a session at a desk of its own, so that no desk is counted while there is nothing to serve. It adds outcomes
-    /// of this client alone: the history that the desk has seen then tells all that is in them. While the session waits for the client
+    /// Serves a client by a session at a desk of its own, with the tries of the options for each operation, so that no desk is counted
+    /// while there is nothing to serve. It adds outcomes of this client alone: the history that the desk has seen then tells all that is in them. While the session waits for the client
     /// it is not at work, nor at the end.
     ///
     /// # Errors
@@ -104,6 +107,12 @@ impl<P: Pseudo, L: MadeWith<P>, K: Receipts + Drop> SessionThread<P, L, K> {
         writer: &mut O,
     ) -> Result<Summary, Refusal>
         requires { 1 ≤ client }
+        ensures session { IsSessionAt P.bits_of
+            (PerOperation service.now.options.now.tries) client
+            self.old.snapshot self.new.snapshot
+            (ends (I.remaining reader.old) (O.contents writer.old))
+            (ends (I.remaining reader.new) (O.contents writer.new))
+            (K.receipts self.old.outcomes) (K.receipts self.new.outcomes) result }
         ensures outcomes { GrowsFor (first_items self.new.snapshot) client
             (K.receipts self.old.outcomes) (K.receipts self.new.outcomes) }
         ensures heard { OnOk result (Heard client

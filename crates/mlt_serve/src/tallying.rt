@@ -3,7 +3,7 @@
 ghost use Rattle.std.specs.Prelude.{◌≡◌, ◌≤◌, IfErr, IfOk, OnOk, length, false};
 ghost use Rattle.mlt_serve_session.specs.Tallies.{commits_told};
 ghost use Rattle.mlt_serve.specs.Clients.{AreOfClients};
-ghost use Rattle.mlt_serve.specs.Endings.{IsOfServer, IsRefusedFor};
+ghost use Rattle.mlt_serve.specs.Endings.{HasAccepted, IsOfServer, IsRefusedFor};
 ghost use Rattle.mlt_serve.specs.Tellings.{HaveBegun, HaveCloses, TellsOutcomes};
 ghost use Rattle.mlt_trace_audit.specs.Agreement.{NumbersAgree};
 
@@ -42,7 +42,8 @@ pub(crate) fn tally_of<P: Pseudo>(
         (λ tally. NumbersAgree tally.told.items manager.now.shared.history.items) }
     ensures closes { IfOk result
         (λ tally. HaveCloses manager.now.shared.history.items tally.told.items) }
-    ensures few { IfOk result (λ _. accepting.connections ≤ limit) }
+    ensures ended { IfOk result
+        (λ _. HasAccepted limit accepting.connections accepting.end) }
     ensures served { IfOk result (λ _. gathered.connections ≡ accepting.connections) }
     ensures whole { OnOk result (gathered.is_short ≡ false) }
     ensures why { IsRefusedFor accepting.end gathered.is_short result }

@@ -15,7 +15,10 @@ use std::test::Fail;
 use std::thread::Threads;
 use std::time::Clock;
 
-// What is written of these scripts by that many workers, with that many tries for each script.
+// How many tries each script has, as many as the program gives by default.
+const TRIES: u64 = 10_000;
+
+// What is written of these scripts by that many workers.
 fn text_of<T: Threads + Wait + Clock + Sync, G: Gate + Sync>(
     rt: &T,
     alloc: Global,
@@ -32,7 +35,7 @@ fn text_of<T: Threads + Wait + Clock + Sync, G: Gate + Sync>(
         limits: Limits::program(),
         workers,
         takes_turns: false,
-        tries,
+        tries: TRIES,
         first: 0,
     };
     let loaded = Vec::new(alloc);

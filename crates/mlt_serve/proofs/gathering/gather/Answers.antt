@@ -24,6 +24,7 @@ loop-thread-preserved g c =
           IsPermutation-trans all (all_outcomes rest ++ (got ++ outcomes_of w)) (all_outcomes rest ++ after) (last_behind outcomes_of rest w all got popped)
           (IsPermutation-append_right (all_outcomes rest) (got ++ outcomes_of w) after (c.take_in.ensures.outcomes f));
       clients = λ f. c.take_in.ensures.clients f (l.invariant.clients (c.take_in.ensures.short f).0);
+      given = λ f. c.take_in.ensures.given f (l.invariant.given (c.take_in.ensures.short f).0);
       of_log = c.take_in.ensures.of_log;
       begun = λ f. c.take_in.ensures.begun f (l.invariant.begun (c.take_in.ensures.short f).0);
       manager = c.take_in.ensures.manager ∙ l.invariant.manager;

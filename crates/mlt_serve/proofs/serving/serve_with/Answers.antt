@@ -1,6 +1,6 @@
 use Rattle.std.proofs.Common.{rules, ◌∙◌, subst, sym, IfSome}
 use Rattle.mlt_manager.specs.Managers.{ManagerFields}
-use Rattle.mlt_serve.{specs.Loads.IsHeard, specs.Tellings.HaveBegun, proofs.Loading.among}
+use Rattle.mlt_serve.{specs.Desks.AreGiven, specs.Loads.IsHeard, specs.Tellings.HaveBegun, proofs.Loading.among}
 use Rattle.mlt_serve.proofs.Names.{TellsOutcomes}
 use Rattle.mlt_serve.proofs.serving.serve_with.Goals as goal
 
@@ -18,3 +18,7 @@ pub returns-in-Ok-clause-loaded : goal.returns-in-Ok-clause-loaded
 returns-in-Ok-clause-loaded g c = λ have.
     let loaded : IfSome c.args.operating.load (λ base. IsHeard 1 base.lines.now base.answers.now (g.K.Receipts.receipts c.run-ran.new.loader.outcomes)) = search rules in
     among c.args.operating.load _ _ _ loaded (c.gather-gathered.ensures.outcomes have)
+
+pub returns-in-Ok-clause-given : goal.returns-in-Ok-clause-given
+returns-in-Ok-clause-given g c = λ have.
+    subst (λ tries. AreGiven g.P.Pseudo.bits_of tries (g.K.Receipts.receipts c.gather-gathered.result.outcomes)) (sym c.requires.tries) (c.gather-gathered.ensures.given have)

@@ -1,6 +1,6 @@
 use Rattle.std.proofs.Common.{false, Some}
 use Rattle.mlt_work_log.specs.Seats.{id_of}
-use Rattle.mlt_work_desk.specs.Makings.{making_by}
+use Rattle.mlt_work_desk.specs.{Makings.making_by, declared.tries.Tries.TheVariants.PerOperation}
 use Rattle.mlt_serve_tests.proofs.sessions.said.Given as goal
 
 abbrev pub ghosts-said_over-L-Ledger : goal.ghosts-said_over-L-Ledger
@@ -11,4 +11,5 @@ ghosts-said_over-L-MadeWith g a = record {
   made_with = Some (making_by a.limits a.pseudo);
   hands_out = false;
   log_id = id_of a.records.log;
+  tries = PerOperation 3;
 }
