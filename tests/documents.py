@@ -141,8 +141,8 @@ def the_map_of_the_crates_is_that_of_their_list(_mltx: Program) -> None:
 
 
 def linked_libraries(kit: Path | None) -> set[str]:
-    """The libraries that `mltx` is linked from, without the standard library and what that uses. Without a kit, those alone
-    that rows of crates.txt name."""
+    """The libraries that `mltx` is linked from, without the standard library and what that alone uses. Without a kit, just
+    those that rows of crates.txt name."""
     rows: dict[str, str] = dict(re.findall(r"(?m)^(\w+):(.*)$", (ROOT / "crates.txt").read_text()))
 
     def below(name: str) -> list[str]:
@@ -156,7 +156,8 @@ def linked_libraries(kit: Path | None) -> set[str]:
             found += [it for it in below(name) if it not in found]
         return set(found)
 
-    return reached(["mltx"]) - reached(["std"]) - set(rows)
+    named = {it for row in rows.values() for it in row.split()}
+    return reached(["mltx"]) - (reached(["std"]) - named) - set(rows)
 
 
 @test
