@@ -17,7 +17,8 @@ pub fn session_queue() -> AdmissionQueue {
     AdmissionQueue::new(AdmissionRules {
         most_admitted: MOST_ADMITTED,
         most_bypassing: MOST_BYPASSING,
-        answers_per_turn: ANSWERS_PER_TURN,
+        first_turn: ANSWERS_PER_TURN,
+        longest_turn: ANSWERS_PER_TURN,
     })
 }
 

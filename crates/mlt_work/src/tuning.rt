@@ -6,9 +6,12 @@ pub(crate) const MOST_ADMITTED: u64 = 1;
 /// How many workers bypass the queue at a time: none, so that each has its turn. By `workers`.
 pub(crate) const MOST_BYPASSING: u64 = 0;
 
-/// After how many answers the turn of a worker is over. It is a prime: where all transactions have the same number of answers,
-/// turns so end at each place in them. By `workers`.
-pub(crate) const ANSWERS_PER_TURN: u32 = 251;
+/// After how many answers the first turn of a worker is over. Turns are short at first, so that short runs are interleaved too. By
+/// `workers`.
+pub(crate) const FIRST_TURN: u32 = 32;
+
+/// After how many answers the longest turn of a worker is over. By `workers`.
+pub(crate) const LONGEST_TURN: u32 = 2_048;
 
 /// For how many milliseconds the first turn waits at most for workers that are still to come. Nothing measures it.
 pub(crate) const START_MILLISECONDS: u64 = 100;

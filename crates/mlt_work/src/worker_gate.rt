@@ -1,7 +1,7 @@
 //! Where a worker takes turns with the others.
 
 use crate::start_line::StartLine;
-use crate::tuning::{ANSWERS_PER_TURN, MOST_ADMITTED, MOST_BYPASSING};
+use crate::tuning::{FIRST_TURN, LONGEST_TURN, MOST_ADMITTED, MOST_BYPASSING};
 use mlt_event::{Answer, Told};
 use mlt_object_kinds::ObjOp;
 use mlt_work_admission::{AdmissionQueue, AdmissionRules, AfterAnswer, PassHolder};
@@ -14,7 +14,8 @@ pub(crate) fn worker_queue() -> AdmissionQueue {
     AdmissionQueue::new(AdmissionRules {
         most_admitted: MOST_ADMITTED,
         most_bypassing: MOST_BYPASSING,
-        answers_per_turn: ANSWERS_PER_TURN,
+        first_turn: FIRST_TURN,
+        longest_turn: LONGEST_TURN,
     })
 }
 
@@ -57,9 +58,19 @@ impl<'a, R: Wait + Clock, G: Gate> WorkerGate<'a, R, G> {
         match self.holder.count(&told) {
             AfterAnswer::GoesOn => (),
             AfterAnswer::Leaves => self.holder.leave(),
+            // It ends its turn within a transaction, which so stays open in the turns of others.
+            AfterAnswer::Queues if has_ended(&told) => (),
             AfterAnswer::Queues => self.holder.queue(),
         }
     }
+}
+
+/// Whether a transaction has ended that was told this.
+fn has_ended(told: &Told) -> bool {
+    matches!(
+        told,
+        Told::Committed(_) | Told::Aborting(true) | Told::Answered(Answer::Aborted)
+    )
 }
 
 impl<R: Wait + Clock, G: Gate> Gate for WorkerGate<'_, R, G> {

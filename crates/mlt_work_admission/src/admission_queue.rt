@@ -21,8 +21,10 @@ pub struct AdmissionRules {
     pub most_admitted: u64,
     /// How many threads bypass the queue at a time.
     pub most_bypassing: u64,
-    /// After how many answers a turn is over.
-    pub answers_per_turn: u32,
+    /// After how many answers the first turn of a thread is over. Each further one takes twice as many, up to those of the longest.
+    pub first_turn: u32,
+    /// After how many answers the longest turn is over.
+    pub longest_turn: u32,
 }
 
 /// Lets a few threads go to work at once, and admits the others in the order in which they come, so that few are at work at a

@@ -30,6 +30,8 @@ pub struct PassHolder<'a, R: Wait> {
     pass: Cell<Option<AdmissionPass>>,
     /// How many answers it has had since it went to work, but for those that its operation goes on.
     answers: Cell<u32>,
+    /// After how many answers its turn is over.
+    turn: Cell<u32>,
     /// Whether its last transaction gave up. Then it pauses outside before the next one: clients that try again at once would
     /// else take from one another what they need, again and again. First tries never wait.
     gave_up: Cell<bool>,
@@ -43,6 +45,7 @@ impl<'a, R: Wait> PassHolder<'a, R> {
             admission_queue,
             pass: Cell::new(None),
             answers: Cell::new(0),
+            turn: Cell::new(admission_queue.rules.first_turn),
             gave_up: Cell::new(false),
         }
     }
@@ -54,6 +57,7 @@ impl<'a, R: Wait> PassHolder<'a, R> {
             admission_queue,
             pass,
             answers: _,
+            turn: _,
             gave_up: _,
         } = self;
         if let Some(pass) = pass.into_inner() {
@@ -87,9 +91,12 @@ impl<'a, R: Wait> PassHolder<'a, R> {
         }
     }
 
-    /// Leaves, if it is at work, and goes to work in its turn.
+    /// Leaves, if it is at work, and goes to work in its turn, which is longer than the last one, unless that was the longest.
     pub fn queue(&self) {
         self.leave();
+        let longest = self.admission_queue.rules.longest_turn;
+        self.turn
+            .set(self.turn.get().saturating_mul(2).min(longest));
         self.answers.set(0);
         self.take_pass(Some(self.admission_queue.queue(self.rt)));
     }
@@ -108,7 +115,7 @@ impl<'a, R: Wait> PassHolder<'a, R> {
         }
         if is_to_wait(told) {
             AfterAnswer::Leaves
-        } else if self.answers.get() >= self.admission_queue.rules.answers_per_turn {
+        } else if self.answers.get() >= self.turn.get() {
             AfterAnswer::Queues
         } else {
             AfterAnswer::GoesOn
