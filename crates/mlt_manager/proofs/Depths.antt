@@ -1,5 +1,5 @@
 -- What a page is on the clean pages, and the depth of the directory
-use Rattle.std.proofs.Common.{◌≡◌, ◌≤◌, ℕ, Option, Some, Bor, option_copied, sym, ap, subst, ◌∙◌}
+use Rattle.std.proofs.Common.{◌≡◌, ◌≤◌, ℕ, Option, Some, sym, ap, subst, ◌∙◌}
 use Rattle.mlt_manager.proofs.Names.{HeadFields, Page, Pages, page_at, header_of, clean_pages, KeepsImage, KeepsNoImage, HasCleanPage, HasCleanPages, HasDepth, IsManager, ManagerFields}
 use Rattle.mlt_manager.{specs.CleanBuckets.IsCleanHead, proofs.CleanPages.pages_clean, proofs.CleanPages.same_clean}
 

@@ -1,8 +1,8 @@
 -- A manager stays one where items of its history are handed out.
 use Rattle.std.proofs.Common.{ℕ, List, None, Some, sym, subst}
-use Rattle.mlt_manager.proofs.Names.{TraceItem, At, Transaction, FitsAt, IsSound, State, IsTraced, IsManager, ManagerFields}
+use Rattle.mlt_manager.proofs.Names.{TraceItem, At, Transaction, FitsAt, IsSound, State, IsManager, ManagerFields}
 use Rattle.mlt_manager_invariant.specs.Sound.{Fits}
-use Rattle.mlt_manager.specs.{HandingOut.HandsOut, HandingOut.with_handed, Managers.IsWithinLimits}
+use Rattle.mlt_manager.specs.{HandingOut.HandsOut, HandingOut.with_handed}
 
 -- the state, with these items of its history handed out
 abbrev state_with : List TraceItem → State → State

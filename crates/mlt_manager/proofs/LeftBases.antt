@@ -1,10 +1,11 @@
--- What is left when all that stands is taken back is the base of the committed transactions
+-- What is left when all that stands is taken back is the base of the committed transactions: an image is of that
 use Rattle.std.proofs.Common.{◌≡◌, ℕ, true, false, Option, None, Some, is_some, refl, sym, ap, subst, ◌∙◌}
 use Rattle.std.specs.FinMap as map
-use Rattle.mlt_manager.proofs.Names.{Base, Step, UndoneTo, Transaction, with_base, HasBase, IsManager, ManagerFields, state_of, IsCommittedBaseOf, lists_by}
+use Rattle.mlt_manager.proofs.Names.{Step, UndoneTo, Transaction, with_base, IsManager, ManagerFields, state_of, lists_by}
 use Rattle.mlt_order.{specs.Histories.Stage.Running, proofs.UndoLaws.undone_to_same}
 use Rattle.mlt_trace_check.proofs.Histories.{nothing_of_others}
-use Rattle.mlt_tx.specs.Standing.{entries_of, standing_in}
+use Rattle.mlt_tx.specs.Standing.{LeadsFromLeft, entries_of, standing_in}
+use Rattle.mlt_manager.specs.Images.{ImageFields, IsImageAt, ShowState}
 use Rattle.mlt_manager.proofs.{Promises.committed_of, Stepped.same_base}
 
 module _ {P : Type 0} (bits_of : P → ℕ → ℕ) (m : ManagerFields P) (h : IsManager bits_of m) where
@@ -21,10 +22,15 @@ module _ {P : Type 0} (bits_of : P → ℕ → ℕ) (m : ManagerFields P) (h : I
       by None none = ap entries_of none ∙ sym (nothing_of_others m.shared.history.items h.base h.sound.match.records.history i (not_running none))
       by (Some one) there = ap entries_of there ∙ (h.sound.fits i one there).stands
 
-  -- **The base that is left is the committed one.**
-  pub left_is_committed : (state base : Base) → HasBase m state → ((left : Base) → UndoneTo Step left (standing_in m.txs) state → base ≡ left) → IsCommittedBaseOf m base
-  left_is_committed state base leads back =
+  -- **What the slots show and what stands are an image of the committed base.**
+  pub image_of_committed : (image : ImageFields) → ShowState m image.slots → LeadsFromLeft m.txs image.standing → image.commits ≡ m.commits → IsImageAt m image
+  image_of_committed image shown leads commits =
       let led = with_base (state_of bits_of m h.images h.base) h.sound in
       let from_lists = undone_to_same Step led.0 h.base (lists_by m).transcripts (standing_in m.txs) stands led.1.undone in
-      let undone : UndoneTo Step led.0 (standing_in m.txs) state = subst (UndoneTo Step led.0 (standing_in m.txs)) (sym (same_base bits_of m h 0 state leads)) from_lists in
-      subst (IsCommittedBaseOf m) (sym (back led.0 undone)) (committed_of bits_of m h led.0 led.1)
+      let undone : UndoneTo Step led.0 (standing_in m.txs) shown.0 = subst (UndoneTo Step led.0 (standing_in m.txs)) (sym (same_base bits_of m h 0 shown.0 shown.1)) from_lists in
+      record {
+        base = led.0;
+        committed = committed_of bits_of m h led.0 led.1;
+        of_base = record { state = shown.0; shown = shown.2; leads = leads led.0 shown.0 undone };
+        commits = commits;
+      }

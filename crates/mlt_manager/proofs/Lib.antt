@@ -3,7 +3,6 @@ pub mod Fast
 pub mod Called
 pub mod Chains
 pub mod CleanPages
-mod CopiedBuckets
 pub mod Counts
 pub mod Courses
 pub mod Depths
@@ -13,9 +12,11 @@ pub mod Ending
 pub mod Finding
 pub mod HandingOut
 pub mod Headline
+mod Images
 pub mod Keeping
 pub mod Kept
 mod LeftBases
+mod ListedSlots
 pub mod Others
 pub mod PassLocks
 pub mod Playing

@@ -6,6 +6,7 @@ pub mod Courses
 pub mod Events
 pub mod HandingOut
 pub mod Headline
+pub mod Images
 pub mod Managers
 pub mod Openings
 pub mod Parts

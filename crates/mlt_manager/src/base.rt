@@ -1,50 +1,58 @@
-//! The base of the committed transactions, from the pages and the undo lists.
+//! What the base of the committed transactions is made of: the clean pages and the undo lists.
 
 ghost use Rattle.std.specs.Prelude.{◌≡◌, ◌<◌, ◌≤◌, ◌^◌, ℕ, IfOk, IsOkUnless};
-ghost use Rattle.mlt_manager.specs.Bases.{HasBase, HasDepth};
-ghost use Rattle.mlt_manager.specs.CleanBuckets.{IsCleanBucket, IsCleanDirectory, IsCleanHead};
+ghost use Rattle.mlt_manager.specs.Bases.{HasDepth};
+ghost use Rattle.mlt_manager.specs.CleanBuckets.{IsBucketOfPrefix, IsCleanBucket, IsCleanDirectory, IsCleanHead};
+ghost use Rattle.mlt_manager.specs.Images.{IsImageAt, ShowState};
 ghost use Rattle.mlt_manager.specs.Managers.{IsManager};
 ghost use Rattle.mlt_manager.specs.Parts.{fields_of};
-ghost use Rattle.mlt_manager.specs.Promises.{IsCommittedBaseOf};
 
+use crate::image::BaseImage;
 use crate::parts::Parts;
-use mlt_manager_invariant::copy_slots;
-use mlt_object_base::Base;
-use mlt_page::{Bucket, DirPage, HeadPage, Page};
+use mlt_page::{Bucket, DIR_ENTRIES, DirPage, HeadPage, Page, SLOTS, Slot};
 use mlt_types::{Pseudo, Refusal};
 
 impl<P: Pseudo> Parts<P> {
-    /// The base to which the committed transactions lead: what the clean pages mean, with all that stands of open transactions
-    /// taken back.
+    /// What the base to which the committed transactions lead is made of: the slots of the clean pages, and what stands of open
+    /// transactions. It only copies.
     ///
     /// # Errors
     /// `OutOfMemory`, where a growth was refused.
-    pub(crate) fn base(&self) -> Result<Base, Refusal>
+    pub(crate) fn image(&self) -> Result<BaseImage, Refusal>
         requires sound { IsManager P.bits_of (fields_of self.now) }
-        ensures base { IfOk result (λ base. IsCommittedBaseOf (fields_of self.now) base) }
+        ensures image { IfOk result (λ image. IsImageAt (fields_of self.now) image) }
         ensures refusal { IsOkUnless result Refusal.OutOfMemory }
     {
-        let mut base = self.clean_base()?;
-        self.txs.take_back(&mut base)?;
-        Ok(base)
+        let slots = self.clean_slots()?;
+        let standing = self.txs.standing()?;
+        Ok(BaseImage {
+            alloc: self.shared.alloc,
+            slots,
+            standing,
+            commits: self.commits,
+        })
     }
 
-    /// The base that the clean pages mean. It goes over the places of the directory, and copies the slots of their buckets.
+    /// The slots of the clean buckets, by the places of the directory: those of a bucket as often as it stands there.
     ///
     /// # Errors
     /// `OutOfMemory`, where a growth was refused.
-    fn clean_base(&self) -> Result<Base, Refusal>
+    fn clean_slots(&self) -> Result<Vec<Slot>, Refusal>
         requires sound { IsManager P.bits_of (fields_of self.now) }
-        ensures base { IfOk result (λ base. HasBase (fields_of self.now) base) }
+        ensures slots { IfOk result (λ slots. ShowState (fields_of self.now) slots.items) }
         ensures refusal { IsOkUnless result Refusal.OutOfMemory }
     {
-        let mut base = Base::new(self.shared.alloc);
         let places = 1 << self.depth();
-        for place in 0..places {
-            let bucket = self.clean_bucket(place);
-            copy_slots(&mut base, &bucket.slots)?;
+        let mut slots = Vec::with_capacity(self.shared.alloc, places * SLOTS)?;
+        for number in 0..places.div_ceil(DIR_ENTRIES) {
+            let first = number * DIR_ENTRIES;
+            let directory = self.clean_directory(first);
+            for place in first..places.min(first + DIR_ENTRIES) {
+                let bucket = self.bucket_in(directory, place);
+                slots.extend_from_slice(&bucket.slots)?;
+            }
         }
-        Ok(base)
+        Ok(slots)
     }
 
     /// The header, on the clean pages.
@@ -78,7 +86,7 @@ impl<P: Pseudo> Parts<P> {
         ensures directory { IsCleanDirectory (fields_of self.now) place result.now }
     {
         let head = self.clean_head();
-        let Some(page) = self.clean_page(head.dir(place / 256)) else {
+        let Some(page) = self.clean_page(head.dir(place / DIR_ENTRIES)) else {
             unreachable!()
         };
         let Page::Dir(directory) = page else {
@@ -87,19 +95,29 @@ impl<P: Pseudo> Parts<P> {
         directory
     }
 
-    /// The bucket to which a place of the directory leads, on the clean pages.
-    fn clean_bucket(&self, place: usize) -> &Bucket
+    /// The bucket to which a place on this page of the directory leads, on the clean pages.
+    fn bucket_in(&self, directory: &DirPage, place: usize) -> &Bucket
         requires sound { IsManager P.bits_of (fields_of self.now) }
         requires within { (depth : ℕ) × HasDepth (fields_of self.now) depth × (place < 2 ^ depth) }
+        requires directory { IsCleanDirectory (fields_of self.now) place directory.now }
         ensures bucket { IsCleanBucket (fields_of self.now) place result.now }
     {
-        let directory = self.clean_directory(place);
-        let Some(page) = self.clean_page(directory.entry(place % 256)) else {
+        let Some(page) = self.clean_page(directory.entry(place % DIR_ENTRIES)) else {
             unreachable!()
         };
         let Page::Bucket(bucket) = page else {
             unreachable!()
         };
         bucket
+    }
+
+    /// The bucket of the pseudokeys that begin with these bits, on the clean pages.
+    pub(crate) fn bucket_of(&self, prefix: u16) -> &Bucket
+        requires sound { IsManager P.bits_of (fields_of self.now) }
+        ensures bucket { IsBucketOfPrefix (fields_of self.now) prefix result.now }
+    {
+        let place = usize::from(prefix) >> (16 - self.depth());
+        let directory = self.clean_directory(place);
+        self.bucket_in(directory, place)
     }
 }

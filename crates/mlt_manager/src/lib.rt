@@ -7,7 +7,9 @@
 #![tactic(auto)]
 
 mod base;
+mod image;
 mod manager;
 mod parts;
 
+pub use image::BaseImage;
 pub use manager::Manager;

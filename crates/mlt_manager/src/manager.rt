@@ -4,24 +4,27 @@ ghost use Rattle.std.specs.Prelude.{◌≡◌, ◌≢◌, ◌≤◌, ◌++◌, [
 ghost use Rattle.std.specs.FinSet as set;
 ghost use Rattle.mlt_trace_check.specs.Traces.{ArePlaced};
 ghost use Rattle.mlt_trace.specs.Numbers.{AreBegunInOrder};
-ghost use Rattle.mlt_tx.specs.Tables.{KeepsImage, KeepsNoImage};
+ghost use Rattle.mlt_tx.specs.{Standing.standing_in, Tables.KeepsImage, Tables.KeepsNoImage};
 ghost use Rattle.mlt_manager.specs.Answers.{AnswersAbort, AnswersBegin, AnswersCall, AnswersCancel, AnswersCommit, AnswersStep, IsByAnother, counted};
 ghost use Rattle.mlt_manager.specs.Bases.{HasDepth, KeepsWhatCounts, LeavesBase, UndoingLeavesBase, WholeLeavesBase};
+ghost use Rattle.mlt_manager.specs.CleanBuckets.{IsBucketOfPrefix};
 ghost use Rattle.mlt_manager.specs.Courses.{Course, KeepsPromiseOver, TellsAll, opening_course};
 ghost use Rattle.mlt_manager.specs.Events.{AreWholeEvents, Meets, NoneWaits, Plays, told_of};
 ghost use Rattle.mlt_manager.specs.HandingOut.{HandsOut};
+ghost use Rattle.mlt_manager.specs.Images.{IsImageAt};
 ghost use Rattle.mlt_manager.specs.Managers.{IsManager};
 ghost use Rattle.mlt_manager.specs.Openings.{IsNew};
 ghost use Rattle.mlt_manager.specs.Undoings.{AnswersWholeUndo};
 ghost use Rattle.mlt_manager.specs.Wholes.{AnswersWhole};
 ghost use Rattle.mlt_manager.specs.Promises.{IsCommittedBaseOf, KeepsPromises, PassesTheChecker};
 
+use crate::image::BaseImage;
 use crate::parts::Parts;
 use mlt_event::{Answer, Event, Told};
 use mlt_hash_form::{form_is_extendible_hashing, records_are_a_map};
 use mlt_object_base::Base;
-use mlt_object_kinds::ObjOp;
-use mlt_page::{Page, Store};
+use mlt_object_kinds::{Done, ObjOp};
+use mlt_page::{Bucket, Page, Store};
 use mlt_trace::KeptItem;
 use mlt_trace_check::{history_passes_the_checker, placed_items_are_writable};
 use mlt_types::{Limits, PageNo, Pseudo, Refusal, TxId};
@@ -288,6 +291,17 @@ impl<P: Pseudo> Manager<P> {
         &self.parts.shared.pages.store
     }
 
+    /// What a transaction did and has not taken back, in order, which is what it holds locks on; nothing if it is not open. It takes no
+    /// memory.
+    pub fn done_by(&self, tx: TxId) -> &[Done]
+        ensures { result.now ≡ standing_in self.now.txs tx }
+    {
+        match self.parts.txs.get(tx) {
+            Some(transaction) => transaction.undo.entries(),
+            None => &[],
+        }
+    }
+
     /// The first image of a page that a running subtransaction has written: the page as it was before, or `None` where it was
     /// made then. Without such a subtransaction there is no answer. It takes no memory.
     pub fn first_image(&self, number: PageNo) -> Option<&Option<Page>>
@@ -317,7 +331,27 @@ impl<P: Pseudo> Manager<P> {
         ensures base { IfOk result (λ base. IsCommittedBaseOf self.now base) }
         ensures refusal { IsOkUnless result Refusal.OutOfMemory }
     {
-        self.parts.base()
+        let image = self.image()?;
+        image.base()
+    }
+
+    /// What the base to which the committed transactions lead is made of, so that it can be made later.
+    ///
+    /// # Errors
+    /// `OutOfMemory`, where a growth was refused.
+    pub fn image(&self) -> Result<BaseImage, Refusal>
+        ensures image { IfOk result (λ image. IsImageAt self.now image) }
+        ensures refusal { IsOkUnless result Refusal.OutOfMemory }
+    {
+        self.parts.image()
+    }
+
+    /// The bucket of the pseudokeys that begin with these 16 bits, on the clean pages: they agree with it in as many bits as its depth
+    /// says. It takes no memory.
+    pub fn bucket_of(&self, prefix: u16) -> &Bucket
+        ensures bucket { IsBucketOfPrefix self.now prefix result.now }
+    {
+        self.parts.bucket_of(prefix)
     }
 
     /// What is promised of every manager, between any two events.

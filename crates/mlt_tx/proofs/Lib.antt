@@ -5,6 +5,6 @@ pub mod Inverses
 pub mod Pending
 pub mod FastCalls
 pub mod Images
-pub mod TakingBack
+pub mod Standing
 pub mod TxSlots
 pub mod Trying

@@ -10,6 +10,6 @@ pub use Rattle.mlt_order.specs.Interleavings.{UndoneTo}
 pub use Rattle.mlt_page_locks.proofs.Maps.{get_inserted, same_entries}
 pub use Rattle.mlt_page_subtx.specs.Images.{Running}
 pub use Rattle.mlt_trace.specs.declared.item.TraceItem.{TraceItem}
-pub use Rattle.mlt_tx.specs.{Fast.StepsFast, Fast.called_with, OpenAt.IsBusy, Standing.standing_in, Steps.TellsOfStart, Tables.ChangesOne, Tables.Table, Transactions.IsPending, Transactions.IsUndoing, Transactions.LeavesRoom, Transactions.pending_after, TxSlots.AreTxSlots, TxSlots.HaveOneEach, TxSlots.LackImage, TxSlots.is_free, TxSlots.is_slot_of, TxSlots.table_of, declared.shared.SharedState.SharedState, declared.transaction.At.At, declared.transaction.Transaction.Transaction, declared.tx_slot.TxSlot.TxSlot}
+pub use Rattle.mlt_tx.specs.{Fast.StepsFast, Fast.called_with, OpenAt.IsBusy, Standing.standing_in, Steps.TellsOfStart, Tables.ChangesOne, Tables.Table, Transactions.IsPending, Transactions.IsUndoing, Transactions.LeavesRoom, Transactions.pending_after, TxSlots.AreTxSlots, TxSlots.LackImage, TxSlots.is_free, TxSlots.is_slot_of, TxSlots.table_of, declared.shared.SharedState.SharedState, declared.transaction.At.At, declared.transaction.Transaction.Transaction, declared.tx_slot.TxSlot.TxSlot}
 pub use Rattle.mlt_tx_operation.specs.Operating.{OperationFields, started_for}
 pub use Rattle.std.proofs.lemmas.{Bool.cases_eq, Bool.Decides.nat_tests, Result.on_err_weaker}

@@ -29,10 +29,6 @@ slots_taken (slot ∷ slots) = cond (is_free slot) 0 1 + slots_taken slots
 abbrev pub entries_in : TxSlot → List (ObjOp × ObjReply)
 entries_in slot = cond (is_free slot) [] slot.transaction.value.undo.entries
 
--- each number has one slot at most: as many slots are taken as numbers have one
-abbrev pub HaveOneEach : List TxSlot → Type 0
-HaveOneEach slots = map.len (table_of slots) ≡ slots_taken slots
-
 -- each number has one slot at most, and so many are taken
 pub record AreTxSlots (slots : List TxSlot) (taken : ℕ) : Type 0 where
   pub one_each : map.len (table_of slots) ≡ slots_taken slots

@@ -3,8 +3,6 @@
 ghost use Rattle.std.specs.Prelude.{◌≡◌, ◌≤◌, None, Some, IsSome, OnOk, OnErr, IsOkUnless, IfOk, IfSome, IfNone, option_copied};
 ghost use Rattle.std.specs.FinMap as map;
 ghost use Rattle.mlt_types.specs.Maps.{with_entry};
-ghost use Rattle.mlt_order.specs.Interleavings.{UndoneTo};
-ghost use Rattle.mlt_object_kinds.specs.Bases.{Base as ObjectBase, Step};
 ghost use Rattle.mlt_page_subtx.specs.Images.{AreThere};
 ghost use Rattle.mlt_hash.specs.Walks.{context_in};
 ghost use Rattle.mlt_tx.specs.declared.transaction.Transaction.{Transaction as TransactionFields};
@@ -12,17 +10,16 @@ ghost use Rattle.mlt_tx.specs.declared.transaction.At.TheVariants as at;
 ghost use Rattle.mlt_tx.specs.Fast.{MayCallFast};
 ghost use Rattle.mlt_tx.specs.Transactions.{IsPending, MayStepIn};
 ghost use Rattle.mlt_tx.specs.OpenAt.{MayStepIfBusy, TriesCall, TriesStep};
-ghost use Rattle.mlt_tx.specs.Standing.{standing_in};
+ghost use Rattle.mlt_tx.specs.Standing.{LeadsFromLeft};
 ghost use Rattle.mlt_tx.specs.Tables.{BeginsOne, CallsNone, CallsOne, CallsOneFast, CancelsOne, KeepsImage, KeepsNoImage, PutsOneAt, StepsOne};
 
 use crate::activity::ActivityState;
 use crate::shared::SharedState;
 use crate::transaction::Transaction;
-use crate::tx_slot::{TxSlot, free_slot, image_in, slot_of, take_back_each};
+use crate::tx_slot::{TxSlot, free_slot, image_in, slot_of, standing_of};
 use mlt_event::Answer;
 use mlt_hash::Environment;
-use mlt_object_base::Base;
-use mlt_object_kinds::{ObjOp, ObjReply};
+use mlt_object_kinds::{Done, ObjOp, ObjReply};
 use mlt_page::Page;
 use mlt_types::{PageNo, Pseudo, Refusal, TxId};
 use std::alloc::Global;
@@ -92,16 +89,16 @@ impl OpenTransactions {
         image_in(&self.slots, page)
     }
 
-    /// Takes back on a base what stands of all open transactions, of each its last operation first.
+    /// What the open transactions did and have not taken back, one transaction after another. Taken back, the last operation first,
+    /// it leaves the base without any of it.
     ///
     /// # Errors
     /// `OutOfMemory`, where a growth was refused.
-    pub fn take_back(&self, base: &mut Base) -> Result<(), Refusal>
-        ensures back { OnOk result ((left : ObjectBase)
-            → UndoneTo Step left (standing_in self.now) base.old → base.new ≡ left) }
+    pub fn standing(&self) -> Result<Vec<Done>, Refusal>
+        ensures leads { IfOk result (λ done. LeadsFromLeft self.now done.items) }
         ensures refusal { IsOkUnless result Refusal.OutOfMemory }
     {
-        take_back_each(&self.slots, base)
+        standing_of(self.alloc, &self.slots)
     }
 
     /// Opens a transaction of a number, which has done nothing.

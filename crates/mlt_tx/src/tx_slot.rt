@@ -1,14 +1,11 @@
 //! The slots of open transactions.
 
-ghost use Rattle.std.specs.Prelude.{◌≡◌, None, Some, IfOk, IfSome, IfNone, IsOkUnless, OnOk, [], ◌∷◌, false, length, position};
-ghost use Rattle.mlt_order.specs.Interleavings.{UndoneTo};
-ghost use Rattle.mlt_object_kinds.specs.Bases.{Base as ObjectBase, Step, TranscriptLeads};
+ghost use Rattle.std.specs.Prelude.{◌≡◌, None, Some, IfOk, IfSome, IfNone, IsOkUnless, false, flat_map, length, position};
 ghost use Rattle.mlt_page_subtx.specs.Images.{image_of};
-ghost use Rattle.mlt_tx.specs.Standing.{standing_in};
-ghost use Rattle.mlt_tx.specs.TxSlots.{BeginsInSlot, HaveOneEach, KeepsInSlot, LackImage, entries_in, is_free, is_slot_of, table_of};
+ghost use Rattle.mlt_tx.specs.TxSlots.{BeginsInSlot, KeepsInSlot, LackImage, entries_in, is_free, is_slot_of};
 
 use crate::transaction::Transaction;
-use mlt_object_base::{Base, take_back};
+use mlt_object_kinds::Done;
 use mlt_page::Page;
 use mlt_types::{PageNo, Refusal, TxId};
 use std::alloc::{AllocError, Global};
@@ -59,16 +56,14 @@ impl TxSlot {
         self.transaction.subtx.first_image(page)
     }
 
-    // Undoes on a base the remaining operations of the transaction in this slot.
-    fn take_back(&self, base: &mut Base) -> Result<(), Refusal>
-        ensures back { OnOk result ((before : ObjectBase)
-            → TranscriptLeads before (entries_in self.now) base.old → base.new ≡ before) }
-        ensures refusal { IsOkUnless result Refusal.OutOfMemory }
+    // What the transaction in this slot did and has not taken back.
+    fn standing(&self) -> &[Done]
+        ensures { result.now ≡ entries_in self.now }
     {
-        if !self.is_free {
-            take_back(base, self.transaction.undo.entries())?;
+        if self.is_free {
+            return &[];
         }
-        Ok(())
+        self.transaction.undo.entries()
     }
 
     // Whether the transaction of a number lies here.
@@ -107,18 +102,17 @@ pub(crate) fn image_in(slots: &[TxSlot], page: PageNo) -> Option<&Option<Page>>
     None
 }
 
-/// Undoes on a base the remaining operations of the transactions in the slots.
+/// What the transactions in the slots did and have not taken back, one slot after another.
 ///
 /// # Errors
 /// `OutOfMemory`, where a growth was refused.
-pub(crate) fn take_back_each(slots: &[TxSlot], base: &mut Base) -> Result<(), Refusal>
-    requires one_each { HaveOneEach slots.now }
-    ensures back { OnOk result ((left : ObjectBase)
-        → UndoneTo Step left (standing_in (table_of slots.now)) base.old → base.new ≡ left) }
+pub(crate) fn standing_of(alloc: Global, slots: &[TxSlot]) -> Result<Vec<Done>, Refusal>
+    ensures all { IfOk result (λ done. done.items ≡ flat_map entries_in slots.now) }
     ensures refusal { IsOkUnless result Refusal.OutOfMemory }
 {
+    let mut done = Vec::new(alloc);
     for slot in slots {
-        slot.take_back(base)?;
+        done.extend_from_slice(slot.standing())?;
     }
-    Ok(())
+    Ok(done)
 }

@@ -1,4 +1,3 @@
-use Rattle.mlt_manager.proofs.Names.{fields_of}
 use Rattle.mlt_manager.proofs.{Keeping.is_counted, Kept.call_kept}
 use Rattle.mlt_manager.proofs.manager.Manager.call.Goals as goal
 

@@ -1,4 +1,3 @@
-use Rattle.mlt_manager.proofs.Names.{fields_of}
 use Rattle.mlt_manager.proofs.{Keeping.is_counted, Kept.commit_kept}
 use Rattle.mlt_manager.proofs.manager.Manager.commit.Goals as goal
 

@@ -1,6 +1,6 @@
-use Rattle.std.proofs.Common.{◌≡◌, Some, None, sym, ap, ◌∙◌, option_copied}
+use Rattle.std.proofs.Common.{◌≡◌, Some, sym, ap, ◌∙◌, option_copied}
 use Rattle.mlt_manager.proofs.Names.{Page, fields_of}
-use Rattle.mlt_manager.proofs.CopiedBuckets.{directory_read, directory_there, few_places}
+use Rattle.mlt_manager.proofs.ListedSlots.{directory_read, directory_there, few_places}
 use Rattle.mlt_manager.proofs.parts.Parts.clean_directory.Goals as goal
 
 pub dir-requires : goal.dir-requires

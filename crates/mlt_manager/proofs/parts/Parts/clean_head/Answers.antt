@@ -1,6 +1,6 @@
-use Rattle.std.proofs.Common.{◌≡◌, Some, None, sym, ap, ◌∙◌, option_copied}
+use Rattle.std.proofs.Common.{◌≡◌, Some, sym, ap, ◌∙◌, option_copied}
 use Rattle.mlt_manager.proofs.Names.{Page, header_of, fields_of}
-use Rattle.mlt_manager.proofs.{CopiedBuckets.head_read, Depths.clean_header}
+use Rattle.mlt_manager.proofs.{ListedSlots.head_read, Depths.clean_header}
 use Rattle.mlt_manager.proofs.parts.Parts.clean_head.Goals as goal
 
 pub unreachable-requires : goal.unreachable-requires

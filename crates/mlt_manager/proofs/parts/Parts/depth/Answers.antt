@@ -1,4 +1,4 @@
-use Rattle.std.proofs.Common.{◌≡◌, ◌≤◌, ap, subst, sym}
+use Rattle.std.proofs.Common.{◌≤◌, ap, subst, sym}
 use Rattle.mlt_manager.proofs.Names.{HeadFields, HasDepth, fields_of}
 use Rattle.mlt_manager.proofs.Depths.{has_depth}
 use Rattle.mlt_manager.proofs.parts.Parts.depth.Goals as goal

@@ -1,15 +1,23 @@
--- The base that the clean pages mean, copied from the buckets at the places of the directory
-use Rattle.std.proofs.Common.{◌≡◌, ◌⊎◌, ℕ, ◌+◌, ◌<◌, ◌≤◌, ◌/◌, ◌%◌, ◌^◌, List, slice_index, Option, None, Some, refl, sym, ap, subst, ◌∙◌, inl, inr, arith, nat_cmp}
-use Rattle.std.proofs.lemmas.Bool.{cases_lt}
-use Rattle.mlt_manager.proofs.Names.{pow-le-pow_right, Cell, Account, Element, Counter, Size, IsInRange, key_number, Base, empty_base, state_at, Means, IsRecord, state_of_record, BucketFields, HeadFields, Page, FilePages, GivesPseudokeys, HasForm, bucket_of, header_of, live_records, clean_pages, AreSlotsOf, CopiesSlots, HasBase, HasCleanPage, HasCleanPages, HasDepth, IsManager, ManagerFields}
+-- The slots of the clean buckets, listed by the places of the directory, show the base to which the history leads
+use Rattle.std.proofs.Common.{◌≡◌, ◌⊎◌, ℕ, ◌+◌, ◌<◌, ◌≤◌, ◌/◌, ◌%◌, ◌-◌, ◌*◌, ◌^◌, List, [], ◌++◌, Contains, slice_index, Option, None, Some, refl, sym, ap, subst, ◌∙◌, inl, inr, arith, nat_cmp}
+use Rattle.std.proofs.{Math.Nat.div-lt_iff_lt-mul, lemmas.Nat.pow-add, lemmas.Nat.pow_pos}
+use Rattle.std.proofs.lemmas.{Bool.cases_lt, List.Elements.Contains-append_cases, List.Elements.Contains-append_left, List.Elements.Contains-append_right}
+use Rattle.mlt_manager.proofs.Names.{pow-le-pow_right, Cell, Account, Element, Counter, Size, IsInRange, key_number, state_at, Means, IsRecord, state_of_record, BucketFields, HeadFields, Page, Slot, FilePages, GivesPseudokeys, HasForm, bucket_of, header_of, live_records, clean_pages, AreSlotsOf, HasCleanPage, HasCleanPages, HasDepth, IsManager, ManagerFields}
 use Rattle.std.specs.FinMap as map
-use Rattle.mlt_object_kinds.proofs.BaseLaws.{same_base as one_base}
 use Rattle.mlt_object_base.proofs.Meanings.{below_or_not}
-use Rattle.mlt_page.specs.Bits.{first_bits}
+use Rattle.mlt_page.specs.{Bits.first_bits, declared.slot.Slot.TheVariants.Live}
+use Rattle.mlt_page_locks.proofs.Maps.{same_entries}
 use Rattle.mlt_hash_form.specs.File.{buckets_of, depth_of, dirs_of, entries_of, entry, lead_of}
 use Rattle.mlt_hash_form.{specs.Form.value_in, proofs.Bits.first_bits-with_first_bits, proofs.Bits.first_bits_below, proofs.Bits.with_first_bits, proofs.Bits.with_first_bits_below, proofs.Lookup.found as record_found, proofs.Lookup.live_from_value, proofs.MapChanges.map_is_look_up, proofs.Paths.path_of}
-use Rattle.mlt_manager_invariant.{specs.Copies.IsPartOf, proofs.Nothing.empty_part}
-use Rattle.mlt_manager.{specs.CleanBuckets.IsCleanBucket, specs.CleanBuckets.IsCleanDirectory, specs.CleanBuckets.IsCleanHead, specs.CleanBuckets.IsTrueOfClean, proofs.CleanPages.pages_clean, proofs.CleanPages.same_clean, proofs.Headline.contained, proofs.Headline.record_of_slot}
+use Rattle.mlt_manager_invariant.specs.Copies.{HasLive}
+use Rattle.mlt_manager.{specs.CleanBuckets.IsCleanBucket, specs.CleanBuckets.IsCleanDirectory, specs.CleanBuckets.IsCleanHead, specs.CleanBuckets.IsTrueOfClean, specs.Images.HasSlotsBelow, specs.Images.ShowState, proofs.CleanPages.pages_clean, proofs.CleanPages.same_clean, proofs.Headline.contained, proofs.Headline.record_of_slot}
+
+-- the place to which the first bits of pseudokeys lead is one of the directory
+pub place_of_prefix : (prefix depth : ℕ) → depth ≤ 16 → prefix < 2 ^ 16 → prefix / 2 ^ (16 - depth) < 2 ^ depth
+place_of_prefix prefix depth low few =
+    let sum : depth + (16 - depth) ≡ 16 = omega (arith, low) in
+    let whole : 2 ^ 16 ≡ 2 ^ depth * 2 ^ (16 - depth) = sym (ap (λ (n : ℕ). 2 ^ n) sum) ∙ pow-add 2 depth (16 - depth) in
+    (div-lt_iff_lt-mul {k = 2 ^ (16 - depth)} {x = prefix} {y = 2 ^ depth} (pow_pos (16 - depth))).1 (subst (λ (n : ℕ). prefix < n) whole few)
 
 in_range_or_not : (c : Cell) → IsInRange c ⊎ (IsInRange c → ⊥)
 in_range_or_not (Account a) = below_or_not a (2 ^ 32)
@@ -20,11 +28,6 @@ in_range_or_not (Element s e) =
       | inl h ↦ elim (below_or_not e (2 ^ 32)) [ inl k ↦ inl (h, k) | inr n ↦ inr (λ x. n x.1) ]
       | inr n ↦ inr (λ x. n x.0)
     ]
-
--- The cells whose keys lead to one of the first places hold what they do in the whole base; any other holds that or nothing.
-pub record AreCopiedBelow (bits : ℕ → ℕ) (depth : ℕ) (whole base : Base) (place : ℕ) : Type 0 where
-  pub part : IsPartOf base whole
-  pub below : (cell : Cell) → IsInRange cell → first_bits depth (bits (key_number cell)) < place → state_at base cell ≡ state_at whole cell
 
 -- a place of the directory leads to this bucket
 pub record LeadsAt (pages : FilePages) (root place : ℕ) : Type 0 where
@@ -147,52 +150,80 @@ module _ {P : Type 0} (bits_of : P → ℕ → ℕ) (m : ManagerFields P) (h : I
       map_is_look_up bits clean m.root.page bounded form key ∙ (record_found bits depth (lead_of pages m.root.page) (buckets_of pages) form.form key value).0 record_there in
       (subst (IsRecord cell) live (means.can_be cell in_range), means.holds cell in_range ∙ ap (state_of_record cell) live)
 
-  pub none_copied : AreCopiedBelow bits depth h.base empty_base 0
-  none_copied = record { part = empty_part h.base; below = λ cell in_range none. absurd (omega (arith, none)) }
+  -- ---- what is listed
 
-  one_more : (place : ℕ) (bucket : BucketFields) (base next : Base) → IsCleanBucket m place bucket → CopiesSlots bucket.slots base next h.base
-      → (cell : Cell) → IsInRange cell → first_bits depth (bits (key_number cell)) ≡ place → state_at next cell ≡ state_at h.base cell
-  one_more place bucket base next is copies cell in_range at = by (map.get (live_records clean) key) refl
-    where
-      key : ℕ
-      key = key_number cell
+  -- clean pages are these
+  is_of_clean : (Is : FilePages → Type 0) → Is pages → IsTrueOfClean m Is
+  is_of_clean Is is other other_clean = subst (λ (c : map.FinMap nat_cmp Page). Is (map.get c)) (sym (same_entries other clean (λ q. same_clean m other clean q other_clean all_clean))) is
 
-      bucket_is : buckets_of pages (lead_of pages m.root.page (bits key)) ≡ bucket
-      bucket_is = ap (λ (p : ℕ). buckets_of pages (entry pages (dirs_of pages m.root.page) p)) at ∙ ap bucket_of (is clean all_clean)
+  same_bucket : (place : ℕ) (one other : BucketFields) → IsCleanBucket m place one → IsCleanBucket m place other → one ≡ other
+  same_bucket place one other is also = ap bucket_of (sym (is clean all_clean) ∙ also clean all_clean)
 
-      by : (live : Option ℕ) → map.get (live_records clean) key ≡ live → state_at next cell ≡ state_at h.base cell
-      by None none = elim (copies.part cell) [
-        | inl same ↦ same
-        | inr nothing ↦ nothing ∙ sym (means.holds cell in_range ∙ ap (state_of_record cell) none)
-      ]
-      by (Some value) live =
-          let found : value_in key bucket.slots ≡ Some value =
-          ap (λ (b : BucketFields). value_in key b.slots) (sym bucket_is) ∙ sym (map_is_look_up bits clean m.root.page bounded form key) ∙ live in
-          let slot = live_from_value key value bucket.slots found in
-          copies.copied cell value in_range (contained bucket.slots slot.0 key value slot.1)
+  -- each place leads to one
+  bucket_at : (place d : ℕ) → HasDepth m d → place < 2 ^ d → (bucket : BucketFields) × IsCleanBucket m place bucket
+  bucket_at place d is within =
+      let way = led place d is within in
+      let listed : pages (slice_index (dirs_of pages m.root.page) (place / 256)) ≡ Some (Page.Dir way.dir) =
+      ap (λ (x : Option Page). pages (slice_index (header_of x).dirs (place / 256))) way.head ∙ way.listed in
+      let at : entry pages (dirs_of pages m.root.page) place ≡ slice_index way.dir (place % 256) = ap (λ (x : Option Page). slice_index (entries_of x) (place % 256)) listed in
+      (way.bucket, is_of_clean (λ pages. pages (entry pages (dirs_of pages m.root.page) place) ≡ Some (Page.Bucket way.bucket)) (ap pages at ∙ way.found))
 
-  pub bucket_copied : (place : ℕ) (bucket : BucketFields) (base next : Base) → IsCleanBucket m place bucket → CopiesSlots bucket.slots base next h.base
-      → AreCopiedBelow bits depth h.base base place → AreCopiedBelow bits depth h.base next (place + 1)
-  bucket_copied place bucket base next is copies first = record {
-    part = copies.part;
-    below = λ cell in_range fewer. elim (cases_lt (first_bits depth (bits (key_number cell))) place) [
-      | inl before ↦ copies.stays cell (first.below cell in_range before)
-      | inr not ↦ one_more place bucket base next is copies cell in_range (omega (arith, fewer, not))
+  pub none_listed : HasSlotsBelow m [] 0
+  none_listed = record { all = λ place bucket slot before. absurd (omega (arith, before)); only = λ slot none. absurd (omega (arith, none.1)) }
+
+  pub fewer_listed : (slots : List Slot) (fewer places : ℕ) → fewer ≤ places → HasSlotsBelow m slots places → HasSlotsBelow m slots fewer
+  fewer_listed slots fewer places few listed = record {
+    all = λ place bucket slot before. listed.all place bucket slot (omega (arith, before, few));
+    only = listed.only;
+  }
+
+  pub bucket_listed : (place : ℕ) (bucket : BucketFields) (slots : List Slot) → IsCleanBucket m place bucket → HasSlotsBelow m slots place → HasSlotsBelow m (slots ++ bucket.slots) (place + 1)
+  bucket_listed place bucket slots is first = record {
+    all = λ at other slot before other_is has. elim (cases_lt at place) [
+      | inl earlier ↦ Contains-append_left slots bucket.slots slot (first.all at other slot earlier other_is has)
+      | inr not ↦
+          let here : at ≡ place = omega (arith, before, not) in
+          let same : other ≡ bucket = same_bucket place other bucket (subst (λ (n : ℕ). IsCleanBucket m n other) here other_is) is in
+          Contains-append_right slots bucket.slots slot (subst (λ (b : BucketFields). Contains b.slots slot) same has)
+    ];
+    only = λ slot has. elim (Contains-append_cases slots bucket.slots slot has) [
+      | inl old ↦ first.only slot old
+      | inr added ↦ (place, bucket, is, added)
     ];
   }
 
-  -- **Where all places were gone over, the base is the one to which the history leads.**
-  pub all_copied : (base : Base) (place d : ℕ) → HasDepth m d → 2 ^ d ≤ place → AreCopiedBelow bits depth h.base base place → HasBase m base
-  all_copied base place d is all copied = subst (HasBase m) (sym same) h.sound.match.records.history
+  -- the slot of a record stands in the bucket at the place of its pseudokey
+  slot_of_record : (slots : List Slot) (places d : ℕ) → HasDepth m d → 2 ^ d ≤ places → HasSlotsBelow m slots places → (key value : ℕ) → map.get (live_records clean) key ≡ Some value → Contains slots (Live key value)
+  slot_of_record slots places d is all listed key value live =
+      let place = first_bits depth (bits key) in
+      let low : depth ≤ 64 = omega (arith, form.listed.small) in
+      let within : place < 2 ^ depth = first_bits_below depth (bits key) low (bounded key) in
+      let found_at = bucket_at place d is (subst (λ (n : ℕ). place < 2 ^ n) (sym (depth_is d is)) within) in
+      let bucket = found_at.0 in
+      let here : buckets_of pages (lead_of pages m.root.page (bits key)) ≡ bucket = ap bucket_of (found_at.1 clean all_clean) in
+      let found : value_in key bucket.slots ≡ Some value =
+      ap (λ (b : BucketFields). value_in key b.slots) (sym here) ∙ sym (map_is_look_up bits clean m.root.page bounded form key) ∙ live in
+      let slot = live_from_value key value bucket.slots found in
+      let most : 2 ^ depth ≤ places = subst (λ (n : ℕ). 2 ^ n ≤ places) (depth_is d is) all in
+      listed.all place bucket (Live key value) (omega (arith, within, most)) found_at.1 (contained bucket.slots slot.0 key value slot.1)
+
+  -- **Where all places were gone over, the slots show the base to which the history leads.**
+  pub all_listed : (slots : List Slot) (places d : ℕ) → HasDepth m d → 2 ^ d ≤ places → HasSlotsBelow m slots places → ShowState m slots
+  all_listed slots places d is all listed = (
+    h.base,
+    h.sound.match.records.history,
+    record {
+      of_base = λ cell value in_range has.
+          let from = listed.only (Live (key_number cell) value) has in
+          slots_of_base from.0 from.1 from.2 cell value in_range from.3;
+      all = λ cell. elim (in_range_or_not cell) [
+        | inl in_range ↦ by cell in_range (map.get (live_records clean) (key_number cell)) refl
+        | inr out ↦ inl (means.elsewhere cell out)
+      ];
+    },
+  )
     where
-      most : 2 ^ depth ≤ place
-      most = subst (λ (n : ℕ). 2 ^ n ≤ place) (depth_is d is) all
-
-      low : depth ≤ 64
-      low = omega (arith, form.listed.small)
-
-      same : base ≡ h.base
-      same = one_base base h.base (λ c. elim (in_range_or_not c) [
-        | inl in_range ↦ copied.below c in_range (let fewer = first_bits_below depth (bits (key_number c)) low (bounded (key_number c)) in omega (arith, fewer, most))
-        | inr out ↦ elim (copied.part c) [ inl is_same ↦ is_same | inr nothing ↦ nothing ∙ sym (means.elsewhere c out) ]
-      ])
+      by : (cell : Cell) → IsInRange cell → (live : Option ℕ) → map.get (live_records clean) (key_number cell) ≡ live
+          → (state_at h.base cell ≡ state_of_record cell None) ⊎ (IsInRange cell × ((value : ℕ) × HasLive slots cell value))
+      by cell in_range None none = inl (means.holds cell in_range ∙ ap (state_of_record cell) none)
+      by cell in_range (Some value) live = inr (in_range, (value, slot_of_record slots places d is all listed (key_number cell) value live))
