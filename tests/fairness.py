@@ -215,6 +215,45 @@ def gets_through_beside_holders(mltx: Program, row: tuple[str, str]) -> None:
     in_time(max(took) < ANSWERED, f"{line} was answered after {took} seconds")
 
 
+# So many clients make so many reports each, on so many accounts, of which they read so many at once. None ends more than so many
+# while another client waits for an account in their midst, on a slow machine too.
+REPORTERS, REPORTS, ACCOUNTS, AT_ONCE_READ, MOST_REPORTS = 16, 50, 200, 20, 5
+
+
+def reports(peer: Peer, ended: list[int], number: int) -> None:
+    """Reads all accounts in one transaction, again and again, and counts these."""
+    for _ in range(REPORTS):
+        begin(peer)
+        for first in range(0, ACCOUNTS, AT_ONCE_READ):
+            peer.send("".join(f"balance {account}\n" for account in range(first, first + AT_ONCE_READ)))
+            same({peer.line().split()[0] for _ in range(AT_ONCE_READ)}, {"is"})
+        same(peer.ask("commit").split()[0], "committed")
+        ended[number] += 1
+
+
+@test(seconds=3)
+def one_account_is_changed_beside_long_reports(mltx: Program) -> None:
+    """A report that comes to the account waits behind its change, however much it has read before: so each of those that
+    run ends, and none that begins. If reports overtook it, the change would wait until the last one has ended."""
+    with sessions(mltx, REPORTERS + 1) as (writer, *reporters):
+        begin(writer)
+        for account in range(ACCOUNTS):
+            same(writer.ask(f"open {account}"), "opened")
+        same(writer.ask("commit"), "committed 1")
+        ended, waits = [0] * REPORTERS, []
+        with ThreadPoolExecutor(REPORTERS) as threads:
+            reporting = [threads.submit(reports, peer, ended, number) for number, peer in enumerate(reporters)]
+            while not all(one.done() for one in reporting):
+                begin(writer)
+                before = list(ended)
+                same(writer.ask(f"deposit {ACCOUNTS // 2} 1"), "done")
+                waits.append(max(now - then for now, then in zip(ended, before)))
+                same(writer.ask("commit").split()[0], "committed")
+            for one in reporting:
+                one.result()
+    holds(max(waits) <= MOST_REPORTS, f"the most reports that one client ended during each wait: {waits}")
+
+
 def moves(ended: float, peer: Peer, seed: int, count: int) -> tuple[int, int]:
     """Transactions of so many moves between six accounts, and at once again after GaveUp. It answers how many committed, and how
     often one was tried at most."""

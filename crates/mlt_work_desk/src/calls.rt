@@ -11,7 +11,6 @@ ghost use Rattle.mlt_work_desk.specs.Acts.{EndsAbort, HasUndone};
 ghost use Rattle.mlt_work_desk.specs.Tries.{GivesUp, IsYoungestOfCycle, StepsByTries, StepsWithoutWait, tries_of, tries_spent};
 ghost use Rattle.mlt_work_desk.specs.Views.{HasMade, desk_view};
 
-use crate::called::Called;
 use crate::lock_desk::LockDesk;
 use crate::made_with::MadeWith;
 use crate::shared::Shared;
@@ -73,7 +72,6 @@ impl<'a, P: Pseudo, L: MadeWith<P>, R: Wait, G: Gate> LockDesk<'a, P, L, R, G> {
             },
             is_asleep: false,
             is_reply: false,
-            called: Called::none(),
             keeps_timestamp: false,
             wakers: Wakers::new(),
             share,
@@ -107,7 +105,6 @@ impl<'a, P: Pseudo, L: MadeWith<P>, R: Wait, G: Gate> LockDesk<'a, P, L, R, G> {
             thread,
             is_asleep: _,
             is_reply: _,
-            called: _,
             keeps_timestamp: _,
             mut wakers,
             share,
@@ -188,8 +185,7 @@ impl<'a, P: Pseudo, L: MadeWith<P>, R: Wait, G: Gate> LockDesk<'a, P, L, R, G> {
         self.thread.tx = tx;
     }
 
-    /// The transaction is to call the operation that it is in. Where others are blocked in operations that may clash with it, the desk
-    /// sleeps behind the last of them before its next event: unless the transaction may hold something there, for which they wait.
+    /// The transaction is to call the operation that it is in. Where somebody is blocked the desk looks whether it has to queue.
     #[inline(always)]
     fn wait_for_turn(&mut self)
         ensures snapshot { self.new.snapshot ≡ self.old.snapshot }
@@ -197,15 +193,13 @@ impl<'a, P: Pseudo, L: MadeWith<P>, R: Wait, G: Gate> LockDesk<'a, P, L, R, G> {
         ensures tries { self.new.tries ≡ self.old.tries }
         ensures events { self.new.share.amount ≡ self.old.share.amount }
     {
-        let op = self.thread.op;
-        let is_new = self.called.add(&op);
-        if is_new && self.shared.has_blocked() {
+        if self.shared.has_blocked() {
             self.queue_behind();
         }
     }
 
-    /// Where others are blocked in operations that may clash with this one, the desk sleeps behind the last of them before its
-    /// next event. The gate hears of it, with the lock free.
+    /// Where others are blocked in operations that may clash with this one, and with none that the transaction holds, the desk sleeps
+    /// behind the last of them before its next event. The gate hears of it, with the lock free.
     #[cold]
     #[inline(never)]
     fn queue_behind(&mut self)
@@ -215,8 +209,7 @@ impl<'a, P: Pseudo, L: MadeWith<P>, R: Wait, G: Gate> LockDesk<'a, P, L, R, G> {
         ensures events { self.new.share.amount ≡ self.old.share.amount }
     {
         let mut state = self.shared.lock(self.rt);
-        let op = self.thread.op;
-        let queues = state.desks.queues(&self.thread, &op);
+        let queues = state.queues(&self.thread);
         drop(state);
         if queues {
             self.is_asleep = true;
@@ -419,7 +412,6 @@ impl<'a, P: Pseudo, L: MadeWith<P>, R: Wait, G: Gate> Desk for LockDesk<'a, P, L
                     self.thread.timestamp = tx.0;
                 }
                 self.keeps_timestamp = false;
-                self.called = Called::none();
                 Ok(tx)
             }
             Told::Refused(refusal) => Err(refusal),

@@ -117,6 +117,11 @@ impl<P: Pseudo, L: MadeWith<P>> LockedState<P, L> {
         (told, turn)
     }
 
+    /// A thread is to call the operation that it is in. It answers whether it waits for its turn behind others from now on.
+    pub(crate) fn queues(&mut self, thread: &SleepingThread) -> bool {
+        self.desks.queues(thread, self.manager.done_by(thread.tx))
+    }
+
     /// Whether the last item of the history tells of this operation. Of a history that was all handed out it does not know.
     #[inline(always)]
     pub(crate) fn ends_with(&self, op: &ObjOp) -> bool

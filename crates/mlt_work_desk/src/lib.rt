@@ -6,7 +6,6 @@
 #![tactic(auto)]
 
 mod blank_records;
-mod called;
 mod calls;
 mod holds;
 mod lock_desk;

@@ -3,7 +3,6 @@
 ghost use Rattle.std.specs.Prelude.{◌≡◌, ◌-◌, ◌^◌, [], min};
 ghost use Rattle.mlt_work_log.specs.Seats.{IsOf};
 
-use crate::called::Called;
 use crate::made_with::MadeWith;
 use crate::shared::Shared;
 use crate::tries::TriesLeft;
@@ -27,8 +26,6 @@ pub struct LockDesk<'a, P: Pseudo, L: MadeWith<P>, R: Wait, G: Gate> {
     pub(crate) is_asleep: bool,
     /// Whether its last event told a reply to the operation that it is in.
     pub(crate) is_reply: bool,
-    /// What the open transaction has called.
-    pub(crate) called: Called,
     /// Whether the next transaction keeps the timestamp of the last one, in which an operation gave up. A timestamp is the number
     /// under which the client first tried what it does, so one that is restarted is the oldest in the end, and gives way to nobody
     /// (Rosenkrantz, Stearns and Lewis, System Level Concurrency Control for Distributed Database Systems, TODS 1978, section 4).

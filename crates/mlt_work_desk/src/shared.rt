@@ -10,10 +10,10 @@ use crate::made_with::MadeWith;
 use crate::statistics::DeskStatistics;
 use crate::tuning::{LOCK_SPINS, PAUSES_PER_LOCK_SPIN};
 use crate::unlocked::Unlocked;
-use mlt_manager::Manager;
-use mlt_page::Page;
+use mlt_manager::{BaseImage, Manager};
+use mlt_page::Bucket;
 use mlt_trace::KeptItem;
-use mlt_types::{PageNo, Pseudo, Refusal, TxId};
+use mlt_types::{Pseudo, Refusal, TxId};
 use mlt_work_log::{HistoryLog, LogSnapshot};
 use mlt_work_waits::{SleepingThread, Waker, Wakers};
 use std::alloc::AllocError;
@@ -129,10 +129,31 @@ impl<P: Pseudo, L: MadeWith<P>> Shared<P, L> {
         state.statistics()
     }
 
-    /// A page, as running operations found it, if there is one. It takes the lock once, and is no event.
-    pub fn clean_page<R: Wait>(&self, rt: &R, number: PageNo) -> Option<Page> {
+    /// What the base of the committed transactions is made of, at one moment. It takes the lock once, while it copies all records, and is
+    /// no event.
+    ///
+    /// # Errors
+    /// `OutOfMemory`, where a growth was refused.
+    pub fn image<R: Wait>(&self, rt: &R) -> Result<BaseImage, Refusal> {
         let state = self.lock(rt);
-        state.clean_page(number)
+        state.image()
+    }
+
+    /// Adds the buckets, as running operations found them, of the pseudokeys that begin with these 16 bits or with greater ones, at
+    /// most so many, in order. Returns with which bits the next one begins, if there are more: a bucket is split within its bits, so that
+    /// a later call misses no record and repeats none. It takes the lock once, and is no event.
+    ///
+    /// # Errors
+    /// Where a growth is refused, then fewer are added.
+    pub fn copy_buckets<R: Wait>(
+        &self,
+        rt: &R,
+        from: u16,
+        most: usize,
+        buckets: &mut Vec<Bucket>,
+    ) -> Result<Option<u16>, AllocError> {
+        let state = self.lock(rt);
+        state.copy_buckets(from, most, buckets)
     }
 
     /// Adds the items of the history that are kept, from this place among them on, at most so many. It takes the lock once, and is no

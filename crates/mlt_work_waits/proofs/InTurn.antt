@@ -1,8 +1,8 @@
 -- Who waits for its turn waits for one that stands in the queue
 use Rattle.std.proofs.Common.{◌≡◌, ◌∙◌, ◌⊎◌, ℕ, ◌==◌, ◌&&◌, ◌||◌, Bool, true, false, not, cond, nat_lt, is_none, is_some, List, [], ◌∷◌, ◌++◌, length, Option, None, Some, refl, sym, subst, ap, inl, inr, eq-eqb, eqb-true}
 use Rattle.std.{specs.List.list_all, specs.Option.option_or, proofs.lemmas.Bool.false≢true}
-use Rattle.mlt_object_kinds.specs.declared.operation.ObjOp.{ObjOp}
-use Rattle.mlt_work_waits.specs.Queues.{with_blocked, without, last_before, may_clash, stands}
+use Rattle.mlt_object_kinds.specs.declared.operation.{ObjOp.ObjOp, ObjReply.ObjReply}
+use Rattle.mlt_work_waits.specs.Queues.{with_blocked, without, holds_clash, last_before, may_clash, stands}
 use Rattle.mlt_work_waits.specs.{Waits.is_for, Waits.others_in, declared.wait.Waiting.Waiting, declared.wait.Whose.Whose, declared.blocked_queue.Blocked.Blocked, Turns.AreInTurn, Turns.waits_in_turn}
 
 -- the same by cases
@@ -131,12 +131,13 @@ holder_left x (wait ∷ more) queue (first, rest) =
     ] refl
 
 -- The last one that may clash stands in the queue.
-pub last_stands : (op : ObjOp) (queue : List Blocked) (y : ℕ) → last_before op queue ≡ Some y → stands y queue ≡ true
-last_stands op [] y none = let is : None ≡ Some y = none in cc
-last_stands op (first ∷ more) y found =
-    elim (last_before op more) as (λ o. last_before op more ≡ o → option_or o (cond (may_clash op first.op) (Some first.tx) None) ≡ Some y → stands y (first ∷ more) ≡ true) [
-      | Some z ↦ λ is same. let one : Some z ≡ Some y = same in or_right (first.tx == y) (stands y more) (last_stands op more y (is ∙ one))
-      | None ↦ λ _ here. or_left (first.tx == y) (stands y more) (eq-eqb first.tx y (only_some (may_clash op first.op) first.tx y here))
+pub last_stands : (op : ObjOp) (held : List (ObjOp × ObjReply)) (queue : List Blocked) (y : ℕ) → last_before op held queue ≡ Some y → stands y queue ≡ true
+last_stands op held [] y none = let is : None ≡ Some y = none in cc
+last_stands op held (first ∷ more) y found =
+    let clashes = may_clash op first.op && not (holds_clash held first.op) in
+    elim (last_before op held more) as (λ o. last_before op held more ≡ o → option_or o (cond clashes (Some first.tx) None) ≡ Some y → stands y (first ∷ more) ≡ true) [
+      | Some z ↦ λ is same. let one : Some z ≡ Some y = same in or_right (first.tx == y) (stands y more) (last_stands op held more y (is ∙ one))
+      | None ↦ λ _ here. or_left (first.tx == y) (stands y more) (eq-eqb first.tx y (only_some clashes first.tx y here))
     ] refl found
 
 -- **Those of them that stay wait as before.**

@@ -60,8 +60,13 @@ with_blocked x op queue =
 abbrev pub without : ℕ → List Blocked → List Blocked
 without x queue = filter (λ blocked. not (blocked.tx == x)) queue
 
--- the last of them with whose operation this one may clash
-abbrev pub last_before : ObjOp → List Blocked → Option ℕ
-last_before op [] = None
-last_before op (first ∷ more) =
-    option_or (last_before op more) (if may_clash op first.op then Some first.tx else None)
+-- one of these, held, may clash with what is requested later
+abbrev pub holds_clash : List (ObjOp × ObjReply) → ObjOp → Bool
+holds_clash held requested = list_any (λ done. may_clash done.0 requested) held
+
+-- the last of them with whose operation this one may clash, and none of these that are held
+abbrev pub last_before : ObjOp → List (ObjOp × ObjReply) → List Blocked → Option ℕ
+last_before op held [] = None
+last_before op held (first ∷ more) =
+    option_or (last_before op held more)
+    (if may_clash op first.op && not (holds_clash held first.op) then Some first.tx else None)

@@ -3,9 +3,9 @@
 ghost use Rattle.std.specs.Prelude.{◌≡◌, [], length};
 ghost use Rattle.mlt_work_waits.specs.Queues.{last_before, stands, with_blocked, without};
 
-use crate::clashing::may_clash;
+use crate::clashing::{holds_clash, may_clash};
 use arrayvec::ArrayVec;
-use mlt_object_kinds::ObjOp;
+use mlt_object_kinds::{Done, ObjOp};
 use mlt_types::TxId;
 use std::marker::Model;
 
@@ -79,11 +79,12 @@ impl BlockedQueue {
         }
     }
 
-    /// The last one that was blocked in an operation that may clash with this one, where this one is done before.
-    pub fn last_before(&self, op: &ObjOp) -> Option<TxId>
-        ensures { result ≡ last_before op.now self.now }
+    /// The last one that was blocked in an operation with which this one may clash, where it is done before, and none of these that
+    /// are held.
+    pub fn last_before(&self, op: &ObjOp, held: &[Done]) -> Option<TxId>
+        ensures { result ≡ last_before op.now held.now self.now }
     {
-        last_before(&self.blocked, op)
+        last_before(&self.blocked, op, held)
     }
 
     /// Whether the transaction stands in it.
@@ -94,13 +95,13 @@ impl BlockedQueue {
     }
 }
 
-/// The last one of these with whose operation this one may clash.
-fn last_before(queue: &[Blocked], op: &ObjOp) -> Option<TxId>
-    ensures { result ≡ last_before op.now queue.now }
+/// The last one of these with whose operation this one may clash, and none of those that are held.
+fn last_before(queue: &[Blocked], op: &ObjOp, held: &[Done]) -> Option<TxId>
+    ensures { result ≡ last_before op.now held.now queue.now }
 {
     let mut last = None;
     for blocked in queue {
-        if may_clash(op, &blocked.op) {
+        if may_clash(op, &blocked.op) && !holds_clash(held, &blocked.op) {
             last = Some(blocked.tx);
         }
     }

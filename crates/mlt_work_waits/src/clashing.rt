@@ -1,9 +1,9 @@
 //! Which operations may clash, whatever they are told.
 
 ghost use Rattle.std.specs.Prelude.{◌≡◌, MatchBool};
-ghost use Rattle.mlt_work_waits.specs.Queues.{MayClash, NeverClash, may_clash};
+ghost use Rattle.mlt_work_waits.specs.Queues.{MayClash, NeverClash, holds_clash, may_clash};
 
-use mlt_object_kinds::{AccountOp, CounterOp, ElementOp, ObjOp};
+use mlt_object_kinds::{AccountOp, CounterOp, Done, ElementOp, ObjOp};
 
 /// Whether an operation, once it is done, may clash with one that is requested later: exactly where by some replies they do.
 ///
@@ -15,6 +15,13 @@ pub fn may_clash(held: &ObjOp, requested: &ObjOp) -> bool
         (MayClash held.now requested.now) (NeverClash held.now requested.now) }
 {
     are_near(held, requested)
+}
+
+/// Whether one of these operations, which are held, may clash with one that is requested later.
+pub(crate) fn holds_clash(held: &[Done], requested: &ObjOp) -> bool
+    ensures { result ≡ holds_clash held.now requested.now }
+{
+    held.iter().any(|done| may_clash(&done.op(), requested))
 }
 
 // Whether some replies of the two clash.

@@ -10,7 +10,7 @@ use crate::turn::{GivenBack, SleepingThread, Turn, given_back, wait_for};
 use crate::wait::{Awaited, Waiting, Waker, Wakers, Whose};
 use crate::waits::WaitsFor;
 use mlt_event::{Answer, Event, Told};
-use mlt_object_kinds::ObjOp;
+use mlt_object_kinds::Done;
 use mlt_types::TxId;
 
 /// How many desks there are, and whose transactions wait for which. Not all wait, and none in a cycle. Contracts name its fields, and
@@ -205,21 +205,22 @@ impl Desks {
         Turn::Goes
     }
 
-    /// One is about to call an operation. Where others are blocked in operations that may clash with it, it waits for its turn
-    /// behind the last of them, if another desk is awake and its wait can join. It answers whether it does.
-    #[inline]
-    pub fn queues(&mut self, thread: &SleepingThread, op: &ObjOp) -> bool
-        ensures queues { result ≡ true → (y : ℕ) × (last_before op.now self.old.queue ≡ Some y)
+    /// A thread is to call the operation that it is in, and its transaction holds these. Where others are blocked in operations with
+    /// which it may clash, it waits for its turn behind the last of them, if another desk is awake and its wait can join. It answers
+    /// whether it does. Those do not count that may be waiting for what it holds.
+    pub fn queues(&mut self, thread: &SleepingThread, held: &[Done]) -> bool
+        ensures queues { result ≡ true → (y : ℕ)
+            × (last_before thread.now.op held.now self.old.queue ≡ Some y)
             × CanSleep self.old.count Awaited.Objects (turn_behind thread.now y) self.old.waits
             × (self.new.waits ≡ joined Awaited.Objects (turn_behind thread.now y) self.old.waits) }
-        ensures goes { result ≡ false → (last_before op.now self.old.queue ≡ None)
-            ⊎ ((y : ℕ) × (last_before op.now self.old.queue ≡ Some y)
+        ensures goes { result ≡ false → (last_before thread.now.op held.now self.old.queue ≡ None)
+            ⊎ ((y : ℕ) × (last_before thread.now.op held.now self.old.queue ≡ Some y)
             × CantSleep self.old.count Awaited.Objects (turn_behind thread.now y) self.old.waits) }
         ensures stays { result ≡ false → self.new.waits ≡ self.old.waits }
         ensures queue { self.new.queue ≡ self.old.queue }
         ensures count { self.new.count ≡ self.old.count }
     {
-        let Some(holder) = self.queue.last_before(op) else {
+        let Some(holder) = self.queue.last_before(&thread.op, held) else {
             return false;
         };
         let wait = Waiting {

@@ -56,10 +56,10 @@ nothing (x ∷ xs) none = absurd (omega (arith, none))
 
 pub invariant_of-self-2-clause-none : goal.invariant_of-self-2-clause-none
 invariant_of-self-2-clause-none g c = elim c.if-not-is_empty.branch [
-  | then-not-is_empty w ↦ ap (λ s. s.1.1.1.1.1.1.1.1.1.1.1.0.items) w.self-is ∙ w.clear.ensures
+  | then-not-is_empty w ↦ ap (λ s. s.1.1.1.1.1.1.1.1.1.1.0.items) w.self-is ∙ w.clear.ensures
   | else-not-is_empty w ↦
       let none : length c.act-told.new.wakers.items ≡ 0 = search rules in
-      ap (λ s. s.1.1.1.1.1.1.1.1.1.1.1.0.items) w.self-is ∙ nothing c.act-told.new.wakers.items none
+      ap (λ s. s.1.1.1.1.1.1.1.1.1.1.0.items) w.self-is ∙ nothing c.act-told.new.wakers.items none
 ]
 
 -- where its operation goes on
