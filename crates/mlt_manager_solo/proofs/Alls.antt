@@ -38,19 +38,19 @@ module _ {P : Type 0} (bits_of : P → ℕ → ℕ) where
       limit = subst (λ (n : ℕ). 1 ≤ n) (sym new.made.open_at_most) limits.in_range.open_least;
     }
 
-    -- **What its scripts have told is a solo text.**
-    pub solo_text : (last : ManagerFields P) (bytes input : List ℕ) (read scripts : List ScriptForm) (outcomes : List Outcome) → bytes ≡ input → read ≡ scripts → Spells bytes scripts
-        → HasRunAll bits_of read m last outcomes → IsSoloText bits_of limits pseudo input (flat_map outcome_text outcomes) last
-    solo_text last bytes input read scripts outcomes same_bytes same_scripts spells all =
-        let ran = subst (λ (ss : List ScriptForm). HasRunAll bits_of ss m last outcomes) same_scripts all in
+    -- **What the first scripts and those read have told is a solo text.**
+    pub solo_text : (last : ManagerFields P) (bytes input : List ℕ) (first read all scripts : List ScriptForm) (outcomes : List Outcome) → bytes ≡ input → all ≡ scripts → scripts ≡ first ++ read
+        → Spells bytes read → HasRunAll bits_of all m last outcomes → IsSoloText bits_of limits pseudo first input (flat_map outcome_text outcomes) last
+    solo_text last bytes input first read all scripts outcomes same_bytes same_scripts are spells run =
+        let ran = subst (λ (ss : List ScriptForm). HasRunAll bits_of ss m last outcomes) (same_scripts ∙ are) run in
         let led = ran.leads empty_base (subst (λ (items : List TraceItem). IsHistory Step empty_base (entries_of items) empty_base) (sym new.items) refl) in
         record {
-          scripts = scripts;
+          read = read;
           marks = map_list mark_of outcomes;
           outcomes = outcomes;
           base = led.0;
-          spells = subst (λ (b : List ℕ). Spells b scripts) same_bytes spells;
-          serial = (last.commits, subst (λ (n : ℕ). AreRuns scripts empty_base n outcomes led.0 last.commits) new.commits led.2, refl);
+          spells = subst (λ (b : List ℕ). Spells b read) same_bytes spells;
+          serial = (last.commits, subst (λ (n : ℕ). AreRuns (first ++ read) empty_base n outcomes led.0 last.commits) new.commits led.2, refl);
           can = ran.can;
           numbered = ran.numbered;
           manager = record { opening = m; is_new = new; exchanges = ran.exchanges; told = ran.told; run = ran.run; leads = led.1 };

@@ -1,5 +1,5 @@
 -- What `solo` writes for an input, and the manager that it answers
-use Rattle.std.specs.Prelude.{◌≡◌, ℕ, List, [], Option}
+use Rattle.std.specs.Prelude.{◌≡◌, ◌++◌, ℕ, List, [], Option}
 use Rattle.mlt_types.specs.declared.{limits.Limits.Limits, refusal.Refusal.Refusal}
 use Rattle.mlt_object_kinds.specs.Bases.{Base}
 use Rattle.mlt_script.specs.{Grammar.Spells, Scripts.ScriptForm}
@@ -19,17 +19,17 @@ pub record IsRunByManager {P : Type 0} (bits_of : P → ℕ → ℕ) (limits : L
   pub run : IsRunOf bits_of opening exchanges new
   pub leads : HasBase new base
 
--- The input spells scripts. They ran one after another from the empty base, just the marked ones were refused, at
--- their marks; and a manager told them so. The text is that of their outcomes.
+-- The input spells scripts. The first scripts and then these ran one after another from the empty base, just the marked ones were
+-- refused, at their marks; and a manager told them so. The text is that of their outcomes.
 pub record IsSoloText {P : Type 0} (bits_of : P → ℕ → ℕ) (limits : Limits) (pseudo : P)
-    (input text : List ℕ) (new : ManagerFields P) : Type 0 where
-  pub scripts : List ScriptForm
+    (first : List ScriptForm) (input text : List ℕ) (new : ManagerFields P) : Type 0 where
+  pub read : List ScriptForm
   pub marks : List (Option (ℕ × Refusal))
   pub outcomes : List Outcome
   pub base : Base
-  pub spells : Spells input scripts
-  pub serial : IsSerialRun scripts marks outcomes base
+  pub spells : Spells input read
+  pub serial : IsSerialRun (first ++ read) marks outcomes base
   pub can : CanBeMarks marks
-  pub numbered : AreNumbered [] scripts outcomes
-  pub manager : IsRunByManager bits_of limits pseudo scripts outcomes base new
+  pub numbered : AreNumbered [] (first ++ read) outcomes
+  pub manager : IsRunByManager bits_of limits pseudo (first ++ read) outcomes base new
   pub is : text ≡ report_text Solo outcomes base

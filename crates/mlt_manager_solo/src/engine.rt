@@ -1,6 +1,6 @@
 //! Scripts from a reader, run one after another, and their text to a writer.
 
-ghost use Rattle.std.specs.Prelude.{◌≡◌, ◌⊎◌, ℕ, List, [], Err, IfErr, IfOk};
+ghost use Rattle.std.specs.Prelude.{◌≡◌, ◌⊎◌, ◌++◌, ℕ, List, [], Err, IfErr, IfOk};
 ghost use Rattle.std.specs.Io.KnownBytes.{Appends};
 ghost use Rattle.mlt_types.specs.declared.refusal.ScriptCause.{ScriptCause};
 ghost use Rattle.mlt_text.specs.Failures.{FailsCleanly, IsScriptFault, IsWant};
@@ -11,16 +11,28 @@ ghost use Rattle.mlt_manager_solo.specs.Solo.{IsSoloText};
 use crate::manager_desk::ManagerDesk;
 use crate::running::run_all;
 use mlt_manager::Manager;
-use mlt_script::parse;
+use mlt_script::{Script, parse};
 use mlt_script_serial::write_outcomes;
 use mlt_text::read_input;
 use mlt_types::{Limits, Pseudo, Refusal};
-use std::alloc::Global;
+use std::alloc::{AllocError, Global};
 use std::io::{Read, Write};
 use std::mem;
 
-/// Reads scripts to the end of the input, runs them one after another through a new manager with these limits, and writes
-/// for each the texts of its replies and how it ended. Clients' numbers make no difference. It answers the manager.
+/// These scripts, with the first ones before them.
+///
+/// # Errors
+/// Where a growth is refused.
+fn with_first(first: Vec<Script>, scripts: Vec<Script>) -> Result<Vec<Script>, AllocError>
+    ensures { IfOk result (λ all. all.items ≡ first.items ++ scripts.items) }
+{
+    let (mut all, mut more) = (first, scripts);
+    all.append(&mut more)?;
+    Ok(all)
+}
+
+/// Reads scripts to the end of the input, runs the first ones and then these, one after another, through a new manager with these
+/// limits, and writes for each the texts of its replies and how it ended. Clients' numbers make no difference. It answers the manager.
 ///
 /// # Errors
 /// `ScriptFault` exactly for an input that is no list of scripts, with its first fault; `Io` where a
@@ -32,15 +44,16 @@ pub fn solo<R: Read, W: Write, P: Pseudo>(
     alloc: Global,
     reader: &mut R,
     writer: &mut W,
+    first: Vec<Script>,
     limits: Limits,
     pseudo: P,
 ) -> Result<Manager<P>, Refusal>
 where
     P: Drop,
-    // what is written is the text of the scripts read, which the manager was asked for
+    // what is written is the text of the first scripts and those read, which the manager was asked for
     ensures text { IfOk result (λ manager. (input text : List ℕ)
         × (GivesWhole (R.remaining reader.old) (R.remaining reader.new) input
-        × IsSoloText P.bits_of limits pseudo input text manager)
+        × IsSoloText P.bits_of limits pseudo first.items input text manager)
         × Appends (W.contents writer.old) (W.contents writer.new) text) }
     // all of the history is there
     ensures history { IfOk result (λ manager. manager.shared.history.handed ≡ []) }
@@ -51,11 +64,12 @@ where
     // where it fails, nothing was written, or a prefix of such a text; and too long an input is not read on
     ensures failure { FailsCleanly (R.remaining reader.old) (R.remaining reader.new)
         (W.contents writer.old) (W.contents writer.new) result
-        (IsSoloText P.bits_of limits pseudo) }
+        (IsSoloText P.bits_of limits pseudo first.items) }
     ensures refusals { IfErr result (λ refusal. IsWant refusal ⊎ IsScriptFault refusal) }
 {
     let input = read_input(alloc, reader)?;
-    let scripts = parse(alloc, input.as_slice())?;
+    let read = parse(alloc, input.as_slice())?;
+    let scripts = with_first(first, read)?;
     let manager = Manager::new(alloc, limits, pseudo)?;
     let mut desk = ManagerDesk { manager };
     let ran = run_all(alloc, &mut desk, scripts.as_slice());

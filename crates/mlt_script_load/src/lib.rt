@@ -1,9 +1,11 @@
-//! The transactions that make a base: `spell_base` reads the text of a base, as `run` and `check`
-//! print it, and spells transactions that make it, with their answers. What it spells is only
-//! tested.
+//! The transactions that make a base: `BaseReader` reads the text of a base, as `run` and `check`
+//! print it, piece by piece, and spells transactions that make it, with their answers. What it spells
+//! is only tested.
 #![tactic(auto)]
 
 mod object;
+mod reading;
 mod spelling;
 
-pub use spelling::{Form, SpelledBase, spell_base};
+pub use reading::{BaseFault, BaseReader};
+pub use spelling::{BasePiece, Form, transactions_of};

@@ -1,9 +1,7 @@
 //! The lines of a base.
 
+use mlt_object_kinds::MAX_BALANCE;
 use mlt_text_words::{has_word, next_number, next_raw_word};
-
-/// The most coins that an account holds.
-const MOST_COINS: u64 = 1_000_000_000_000_000_000;
 
 /// An object, with what it holds.
 #[derive(Clone, Copy)]
@@ -26,7 +24,7 @@ impl Object {
             return None;
         }
         match kind {
-            b"account" if second <= MOST_COINS => {
+            b"account" if second <= MAX_BALANCE => {
                 Some(Object::Account(u32::try_from(first).ok()?, second))
             }
             b"element" => {

@@ -45,6 +45,11 @@ pub(crate) fn push_expected(
             TraceCause::Place => text.push_str(trace_place_text(first_word(line)))?,
             TraceCause::Reply => push_true_reply(alloc, text, read, number)?,
         },
+        TextFault::Base(cause) => match cause {
+            ScriptCause::Line => text.push_str(line_text(kind, line))?,
+            ScriptCause::Place => text.push_str(BASE_PLACE)?,
+            _ => return Ok(push_words(alloc, text, kind, line)?),
+        },
     }
     Ok(None)
 }
@@ -156,6 +161,10 @@ static TRACE_PLACES: WordTable = &[
         "expected: an open transaction without a `back`, and as N the number of earlier commits plus 1",
     ),
 ];
+
+// Of lines of a base that may not stand there.
+const BASE_PLACE: &str =
+    "expected: accounts first, then elements, then counters, each by rising numbers and once";
 
 fn script_place_text(word: &[u8]) -> &'static str {
     find_row(SCRIPT_PLACES, word).unwrap_or("expected: a `begin` before it")

@@ -15,6 +15,8 @@ pub(crate) enum TextKind {
     Schedule,
     /// A trace.
     Trace,
+    /// A base.
+    Base,
 }
 
 impl TextKind {
@@ -24,6 +26,7 @@ impl TextKind {
             TextKind::Scripts => SCRIPT_FORMS,
             TextKind::Schedule => SCHEDULE_FORMS,
             TextKind::Trace => TRACE_FORMS,
+            TextKind::Base => BASE_FORMS,
         }
     }
 
@@ -92,6 +95,15 @@ static TRACE_FORMS: WordTable = &[
     ("back", "`back T`, T at least 1"),
     ("commit", "`commit T N`, T and N at least 1"),
     ("abort", "`abort T`, T at least 1"),
+];
+
+static BASE_FORMS: WordTable = &[
+    ("account", "`account A b`, A below 2^32, b at most 10^18"),
+    ("element", "`element S e`, S below 2^16, e below 2^32"),
+    (
+        "counter",
+        "`counter C v`, C below 2^32, v at least 1 and below 2^64",
+    ),
 ];
 
 /// The operations, each with the replies that it gets.

@@ -3,8 +3,9 @@
 use crate::forms::{OPERATIONS, OTHER_NAMES, TextKind, find_nearest, find_row};
 use crate::shown::show_front;
 use crate::words::{WordAt, is_one_of, words_of};
+use mlt_object_kinds::MAX_BALANCE;
 use mlt_script::read_reply;
-use mlt_text_words::{Word, next_word};
+use mlt_text_words::{Word, next_number, next_word};
 use std::alloc::{AllocError, Global};
 
 // What is noticed of a line.
@@ -80,6 +81,7 @@ fn find_hint<'a>(
         TextKind::Trace if is_one_of(first.text, &["op"]) && words.len() > 4 => {
             reply_hint(words.last(), replies)
         }
+        TextKind::Base => amount_hint(first.text, words.get(2)),
         _ => None,
     };
     if let Some(hint) = found {
@@ -115,6 +117,9 @@ fn other_text(kind: TextKind, first: &[u8], has_more: bool) -> Option<&'static s
         }
         _ if TextKind::Trace.find_form(first).is_some() => {
             Some("this is a line of a trace for `check`; ")
+        }
+        _ if TextKind::Base.find_form(first).is_some() => {
+            Some("this is a line of a base for `--load`; ")
         }
         _ => None,
     }
@@ -159,6 +164,19 @@ fn operation_place(kind: TextKind, first: &[u8]) -> Option<usize> {
         TextKind::Trace if is_one_of(first, &["op"]) => Some(2),
         _ => None,
     }
+}
+
+// What is odd of the balance of an account, or of the value of a counter.
+fn amount_hint<'a>(first: &[u8], amount: Option<&WordAt<'a>>) -> Option<Hint<'a>> {
+    let amount = amount?;
+    let (number, _) = next_number(amount.text)?;
+    if is_one_of(first, &["account"]) && number > MAX_BALANCE {
+        return Some(Hint::OfWord(*amount, "is too large: an account has at most 10^18 coins"));
+    }
+    if is_one_of(first, &["counter"]) && number == 0 {
+        return Some(Hint::OfWord(*amount, "is left out: a counter at 0 has no line"));
+    }
+    None
 }
 
 // What is odd of a `let`.

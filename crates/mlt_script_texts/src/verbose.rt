@@ -22,6 +22,8 @@ pub enum TextFault {
     Schedule(ScriptCause),
     /// A trace, as `check` reads it.
     Trace(TraceCause),
+    /// A base to begin with. Of its text only the faulty line is kept.
+    Base(ScriptCause),
 }
 
 impl TextFault {
@@ -31,6 +33,7 @@ impl TextFault {
             TextFault::Scripts(_) => TextKind::Scripts,
             TextFault::Schedule(_) => TextKind::Schedule,
             TextFault::Trace(_) => TextKind::Trace,
+            TextFault::Base(_) => TextKind::Base,
         }
     }
 }
@@ -40,9 +43,16 @@ impl TextFault {
 pub enum Detail<'a> {
     /// Why a call on the file or address failed, in the words of the system.
     Said(&'a str),
-    /// The fault, the number of its line, counted from 1, the text in which it is, and whether a caret below the line points at
-    /// the word.
+    /// The fault, the number of its line, counted from 1, the text in which it is, or of a base the line alone, and whether a caret
+    /// below the line points at the word.
     Faulty(TextFault, u64, &'a [u8], bool),
+}
+
+// The line of this number, from 1.
+fn line_of(text: &[u8], number: u64) -> &[u8] {
+    let mut lines = text.split(|byte| *byte == b'\n');
+    let line = lines.nth(number.saturating_sub(1) as usize);
+    line.unwrap_or(&[])
 }
 
 // The line as the fault sees it: a CR before its LF counts where a byte or the length is wrong.
@@ -50,6 +60,7 @@ fn faulty_line(fault: TextFault, line: &[u8]) -> &[u8] {
     match fault {
         TextFault::Scripts(ScriptCause::Line)
         | TextFault::Schedule(ScriptCause::Line)
+        | TextFault::Base(ScriptCause::Line)
         | TextFault::Trace(TraceCause::Line) => line,
         _ => trimmed(line),
     }
@@ -60,9 +71,11 @@ fn verbose_text(alloc: Global, subject: &str, detail: &Detail<'_>) -> Result<Str
     match *detail {
         Detail::Said(words) => Ok(format!(in alloc; "mltx: {subject}: {words}\n")?),
         Detail::Faulty(fault, number, read, points) => {
-            let mut lines = read.split(|byte| *byte == b'\n');
-            let line = lines.nth(number.saturating_sub(1) as usize);
-            let line = faulty_line(fault, line.unwrap_or(&[]));
+            let line = match fault {
+                TextFault::Base(_) => read,
+                _ => line_of(read, number),
+            };
+            let line = faulty_line(fault, line);
             let front = show_front(alloc, line)?;
             let mut text = format!(in alloc; "mltx: {subject}, line {number}: `{front}`: ")?;
             let at = push_expected(alloc, &mut text, fault, line, read, number)?;

@@ -11,7 +11,7 @@ run_all-ran-requires g c =
 
 pub returns-in-Ok-written-clause-text : goal.returns-in-Ok-written-clause-text
 returns-in-Ok-written-clause-text g c =
-    let text = solo_text _ _ _ _ c.in_ok-manager.ensures.opening _ _ _ _ _ _ c.as_slice.ensures.value c.as_slice-2.ensures.value c.in_ok-scripts.ensures.spelled c.in-Ok.ensures.run in
+    let text = solo_text _ _ _ _ c.in_ok-manager.ensures.opening _ _ _ _ _ _ _ _ c.as_slice.ensures.value c.as_slice-2.ensures.value c.in_ok-scripts.ensures c.in_ok-read.ensures.spelled c.in-Ok.ensures.run in
     (c.in_ok-input.input.items, flat_map outcome_text c.in-Ok.outcomes, (c.in_ok-input.ensures.ok, text), c.in-Ok-written.ensures.ok)
 
 pub returns-in_err-input-clause-failure : goal.returns-in_err-input-clause-failure
@@ -21,6 +21,9 @@ returns-in_err-input-clause-failure g c =
 
 pub returns-in_err-scripts-clause-failure : goal.returns-in_err-scripts-clause-failure
 returns-in_err-scripts-clause-failure g c = unwritten _ _ _ _ _ c.from_residual-in_err-scripts.result c.in_ok-input.input.items c.in_ok-input.ensures.ok (Keeps-refl _)
+
+pub returns-in_err-read-clause-failure : goal.returns-in_err-read-clause-failure
+returns-in_err-read-clause-failure g c = unwritten _ _ _ _ _ c.from_residual-in_err-read.result c.in_ok-input.input.items c.in_ok-input.ensures.ok (Keeps-refl _)
 
 pub returns-in_err-manager-clause-failure : goal.returns-in_err-manager-clause-failure
 returns-in_err-manager-clause-failure g c = unwritten _ _ _ _ _ c.from_residual-in_err-manager.result c.in_ok-input.input.items c.in_ok-input.ensures.ok (Keeps-refl _)
@@ -33,6 +36,6 @@ returns-in-Ok-written-clause-failure g c = finished _ _ _ _ _ c.run_all-ran.new.
 
 pub returns-clause-failure : goal.returns-clause-failure
 returns-clause-failure g c =
-    let text = solo_text _ _ _ _ c.in_ok-manager.ensures.opening _ _ _ _ _ _ c.as_slice.ensures.value c.as_slice-2.ensures.value c.in_ok-scripts.ensures.spelled c.in-Ok.ensures.run in
+    let text = solo_text _ _ _ _ c.in_ok-manager.ensures.opening _ _ _ _ _ _ _ _ c.as_slice.ensures.value c.as_slice-2.ensures.value c.in_ok-scripts.ensures c.in_ok-read.ensures.spelled c.in-Ok.ensures.run in
     unfinished _ _ _ _ _ c.in-Err-written.refusal c.in_ok-input.input.items (flat_map outcome_text c.in-Ok.outcomes) c.run_all-ran.new.desk.manager c.in_ok-input.ensures.ok text
     c.in-Err-written.ensures.refusal (λ memory. c.in-Err-written.ensures.memory (ap Err memory)) (λ io. c.in-Err-written.ensures.io (ap Err io))
