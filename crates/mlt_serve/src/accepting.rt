@@ -24,7 +24,7 @@ const TOO_MANY: &[u8] = b"error 7 TooManyOpen\n";
 /// A connection that was accepted.
 #[derive(Drop)]
 pub(crate) struct Connection {
-    /// How many were accepted before.
+    /// How many there were before, with those that have loaded the base.
     pub(crate) before: u64,
     /// Its number, from 1: 1, 2, 3 and so on, and 1 again after 4,294,967,295.
     pub(crate) client: u32,
@@ -100,7 +100,7 @@ impl<'a, R: Wait + Clock> Acceptor<'a, R> {
                     if self.lets_in() {
                         return Ok(stream);
                     }
-                    turn_away(stream);
+                    self.refuse(stream);
                 }
                 Accepted::Again(error) => self.try_again(false, Note::AcceptFailed(error)),
                 Accepted::Pause(error) => self.try_again(true, Note::AcceptPauses(error)),
@@ -139,6 +139,14 @@ impl<'a, R: Wait + Clock> Acceptor<'a, R> {
         }
     }
 
+    /// A client is refused since all sessions are taken. The first is logged.
+    fn refuse(&self, stream: TcpStream) {
+        if self.door.count_refused() == 0 {
+            self.notes.tell(self.rt, Note::NoSession);
+        }
+        turn_away(stream);
+    }
+
     /// An accept has failed, for want of descriptors or buffers or not, and is to be tried again: after a pause if so, or if another
     /// has failed before. The first of either kind in a row is logged.
     fn try_again(&mut self, is_want: bool, note: Note) {
@@ -157,30 +165,31 @@ impl<'a, R: Wait + Clock> Acceptor<'a, R> {
         self.is_pausing = self.is_pausing || is_want;
     }
 
-    /// Accepts as many as the limit says, with those that were accepted before, and sends each on as it comes.
+    /// Accepts as many as the limit says, and sends each on as it comes. So many connections have loaded the base before.
     fn accept_all(
         &mut self,
         connections: &Sender<Connection, Global>,
+        loaded: u32,
         limit: u64,
     ) -> (u64, ListenerEnd)
         ensures few { result.0 ≤ limit }
         ensures whole { is_limit result.1 ≡ true → result.0 ≡ limit }
     {
-        let loaded = self.door.accepted();
-        for before in loaded..limit {
+        for taken in 0..limit {
             let stream = match self.next() {
                 Ok(stream) => stream,
-                Err(ended) => return (before, ended),
+                Err(ended) => return (taken, ended),
             };
+            let before = taken.saturating_add(u64::from(loaded));
             if let Err(ended) = self.send_on(connections, before, stream) {
-                return (before, ended);
+                return (taken, ended);
             }
-            self.warn(before + 1 - loaded, limit - loaded);
+            self.warn(taken + 1, limit);
         }
-        (limit, ListenerEnd::Limit(limit.saturating_sub(loaded)))
+        (limit, ListenerEnd::Limit(limit))
     }
 
-    /// Sends a connection on, before which so many were accepted.
+    /// Sends a connection on, before which there were so many.
     ///
     /// # Errors
     /// `Memory`, where the sending was refused.
@@ -213,7 +222,7 @@ impl<'a, R: Wait + Clock> Acceptor<'a, R> {
     }
 }
 
-/// The number of a connection before which so many were accepted: 1, 2, 3 and so on, and 1 again after 4,294,967,295.
+/// The number of a connection before which there were so many: 1, 2, 3 and so on, and 1 again after 4,294,967,295.
 fn number_of(before: u64) -> u32
     ensures { result ≡ before % (2 ^ 32 - 1) + 1 }
 {
@@ -228,7 +237,7 @@ fn turn_away(stream: TcpStream) {
     let _ = stream.shutdown(Shutdown::Write);
 }
 
-/// Accepts as many connections as the limit says, numbers them, and sends each on as it comes, to so many session threads. It accepts no
+/// Accepts as many connections as the limit says, numbers them behind those that have loaded the base, and sends each on as it comes, to so many session threads. It accepts no
 /// more once an accept has failed by the listener, a sending was refused, a session was refused a growth, or the server is to stop. Then
 /// clients are refused from now on, and a log message says why. What it has accepted it has sent on, unless that was refused.
 pub(crate) fn accept_all<P: Pseudo, L: MadeWith<P>, R: Wait + Clock>(
@@ -236,6 +245,7 @@ pub(crate) fn accept_all<P: Pseudo, L: MadeWith<P>, R: Wait + Clock>(
     service: &Service<'_, P, L>,
     connections: Sender<Connection, Global>,
     threads: usize,
+    loaded: u32,
 ) -> Accepting
     ensures few { result.connections ≤ service.now.options.now.connections }
     ensures whole { is_limit result.end ≡ true
@@ -255,7 +265,7 @@ pub(crate) fn accept_all<P: Pseudo, L: MadeWith<P>, R: Wait + Clock>(
         is_failing: false,
         is_pausing: false,
     };
-    let (accepted, ended) = acceptor.accept_all(&connections, options.connections);
+    let (accepted, ended) = acceptor.accept_all(&connections, loaded, options.connections);
     door.close();
     notes.tell(rt, Note::AcceptEnded(ended));
     Accepting {

@@ -18,6 +18,8 @@ pub(crate) struct Door<'a> {
     taken: AtomicU64,
     /// How many of these have ended.
     ended: AtomicU64,
+    /// How many clients were refused since all sessions were taken.
+    refused: AtomicU64,
 }
 
 impl<'a> Door<'a> {
@@ -30,6 +32,7 @@ impl<'a> Door<'a> {
             accepted: AtomicU64::new(0),
             taken: AtomicU64::new(0),
             ended: AtomicU64::new(0),
+            refused: AtomicU64::new(0),
         }
     }
 
@@ -84,6 +87,16 @@ impl<'a> Door<'a> {
     /// One that was taken has ended.
     pub(crate) fn count_ended(&self) {
         self.ended.fetch_add(1, Ordering::SeqCst);
+    }
+
+    /// A client is to be refused since all sessions are taken. It returns how many were before.
+    pub(crate) fn count_refused(&self) -> u64 {
+        self.refused.fetch_add(1, Ordering::SeqCst)
+    }
+
+    /// How many clients were refused since all sessions were taken.
+    pub(crate) fn refused(&self) -> u64 {
+        self.refused.load(Ordering::SeqCst)
     }
 
     /// How many connections were accepted.

@@ -1,6 +1,6 @@
 //! Connections without end, of which nothing is kept.
 
-ghost use Rattle.std.specs.Prelude.{◌≡◌, ◌<◌, ◌≤◌, IfErr, IfOk, length};
+ghost use Rattle.std.specs.Prelude.{◌≡◌, ◌+◌, ◌<◌, ◌≤◌, [], IfErr, IfOk, length, true};
 ghost use Rattle.mlt_manager.specs.Openings.{IsMadeWith};
 ghost use Rattle.mlt_serve_session.specs.Tallies.{commits_told};
 ghost use Rattle.mlt_serve.specs.Clients.{AreOfClients};
@@ -11,7 +11,7 @@ ghost use Rattle.mlt_serve.specs.Tellings.{HaveCloses, TellsOutcomes};
 ghost use Rattle.mlt_trace_audit.specs.Agreement.{NumbersAgree};
 ghost use Rattle.mlt_work_desk.specs.declared.tries.Tries.TheVariants.{PerOperation};
 
-use crate::operating::{EndSignal, Operating, TraceFile};
+use crate::operating::{BaseFile, BaseSource, EndSignal, Operating, TraceFile};
 use crate::options::ServeOptions;
 use crate::serving::{Ended, serve_with};
 use crate::tallying::tally_of;
@@ -31,12 +31,14 @@ use std::time::Clock;
 
 /// What became of the connections, of which the outcomes were counted and not kept.
 #[derive(Drop)]
-pub struct ServedEndless<P: Pseudo> {
+pub struct ServedEndless<P: Pseudo, B> {
+    /// The base, which was loaded.
+    pub base: B,
     /// How many transactions clients were told begun, and committed.
     pub tally: Tally,
     /// The manager. What it did was taken out of it.
     pub manager: Manager<P>,
-    /// How many connections were accepted, and served.
+    /// How many connections were accepted, and served. Those that have loaded the base are not among them.
     pub connections: u64,
     /// How the accepting ended: by the limit, or since the server was to end.
     pub end: ListenerEnd,
@@ -57,21 +59,25 @@ pub struct ServedEndless<P: Pseudo> {
 /// # Errors
 /// `Io` and `OutOfMemory`, as `serve_on`. `Audit`, where neither came, and the counts are not those of the manager, a transaction is
 /// open, or not all connections were served.
-pub fn serve_endless<P: Pseudo + Drop + Send, R, N, T, S>(
+pub fn serve_endless<P: Pseudo + Drop + Send, R, N, T, S, F, B>(
     rt: &R,
     alloc: Global,
     listener: &TcpListener,
     pseudo: P,
     options: &ServeOptions,
-    operating: Operating<'_, N, T, S>,
-) -> Result<ServedEndless<P>, Refusal>
+    operating: Operating<'_, N, T, S, F>,
+    base: B,
+) -> Result<ServedEndless<P, B>, Refusal>
 where
     R: Threads + Wait + Clock + Sync + Send + Copy + 'static,
     N: Write + Send + Drop + 'static,
     T: TraceFile + Send + Drop + 'static,
     S: EndSignal + Send + Drop,
+    F: BaseFile + Send,
+    B: BaseSource + Drop,
     requires some { 0 < options.now.sessions }
     requires most { options.now.sessions ≤ 64 }
+    requires base { B.given base ≡ [] }
     // the manager has these limits and this function from keys to pseudokeys
     ensures made { IfOk result (λ got. IsMadeWith got.manager options.now.limits pseudo) }
     // as many transactions were told begun as the manager has begun
@@ -93,21 +99,27 @@ where
     // the history has the commit of an outcome, or else its abort
     ensures closes { IfOk result
         (λ got. HaveCloses got.manager.shared.history.items got.tally.told.items) }
-    // each outcome was that of one of the connections
-    ensures clients { IfOk result
-        (λ got. AreOfClients got.connections got.tally.told.items) }
-    // these are no more than the options say, and as many where the accepting ended by that
+    // each outcome was that of a connection, one for each piece of the base or one that was accepted
+    ensures clients { IfOk result (λ got. AreOfClients
+        (length (B.given got.base) + got.connections) got.tally.told.items) }
+    // those accepted are no more than the options say, and as many where the accepting ended by that
     ensures ended { IfOk result
         (λ got. HasAccepted options.now.connections got.connections got.end) }
-    // if there is a base to load, connection 1 heard all lines of it and was told just its answers, and its outcomes are among these
-    ensures loaded { IfOk result (λ got. HasLoaded operating.entry.load got.tally.told.items) }
+    // connections 1, 2, 3 and so on heard all lines of one piece of the base each and were told just its answers, and their outcomes are
+    // among these
+    ensures loaded { IfOk result (λ got. HasLoaded (B.given got.base) got.tally.told.items) }
+    // no more pieces follow
+    ensures over { IfOk result (λ got. B.is_over got.base ≡ true) }
     ensures refusal { IfErr result IsOfServer }
 {
     let Ended {
-        ran,
+        base,
+        loaded,
+        accepting,
+        trace_failure,
         gathered,
         manager,
-    } = serve_with::<P, Brand, Tally, R, N, T, S>(
+    } = serve_with::<P, Brand, Tally, R, N, T, S, F, B>(
         rt,
         alloc,
         BlankRecords::new(alloc, 131)?,
@@ -115,15 +127,17 @@ where
         pseudo,
         options,
         operating,
+        base,
         true,
     )?;
-    match tally_of(ran.accepting, gathered, options.connections, &manager) {
+    match tally_of(accepting, loaded, gathered, options.connections, &manager) {
         Ok(tally) => Ok(ServedEndless {
+            base,
             tally,
             manager,
-            connections: ran.accepting.connections,
-            end: ran.accepting.end,
-            trace_failure: ran.trace_failure,
+            connections: accepting.connections,
+            end: accepting.end,
+            trace_failure,
         }),
         Err(refusal) => {
             manager.close();

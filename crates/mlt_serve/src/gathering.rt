@@ -122,15 +122,21 @@ impl<K: Receipts + Drop> Gathered<K> {
         self.is_short = self.is_short || thread.is_short || refused;
     }
 
-    /// How many connections were served, where these are all that were accepted.
+    /// How many connections were served, where these are those that have loaded the base and all that were accepted.
     ///
     /// # Errors
     /// Why the accepting ended by a fault; else `OutOfMemory`, where a growth was refused; else `Audit`, where not as many connections
-    /// were served as were accepted, or more than the limit says, or fewer where it ended by that.
-    pub(crate) fn served(&self, accepting: Accepting, limit: u64) -> Result<u64, Refusal>
-        ensures accepted { IfOk result (λ count. count ≡ accepting.connections) }
+    /// were served, or more were accepted than the limit says, or fewer where it ended by that.
+    pub(crate) fn served(
+        &self,
+        accepting: Accepting,
+        loaded: u32,
+        limit: u64,
+    ) -> Result<u64, Refusal>
+        ensures all { IfOk result (λ count. count ≡ loaded + accepting.connections) }
         ensures served { IfOk result (λ count. self.now.connections ≡ count) }
-        ensures ended { IfOk result (λ count. HasAccepted limit count accepting.end) }
+        ensures ended { IfOk result
+            (λ _. HasAccepted limit accepting.connections accepting.end) }
         ensures whole { OnOk result (self.now.is_short ≡ false) }
         ensures why { IsRefusedFor accepting.end self.now.is_short result }
         ensures refusal { IfErr result IsOfServer }
@@ -139,11 +145,10 @@ impl<K: Receipts + Drop> Gathered<K> {
         if self.is_short {
             return Err(Refusal::OutOfMemory);
         }
-        let count = accepting.connections;
-        if !accepting.is_within(limit) || self.connections != count {
-            return Err(Refusal::Audit);
+        match accepting.connections.checked_add(u64::from(loaded)) {
+            Some(count) if accepting.is_within(limit) && self.connections == count => Ok(count),
+            _ => Err(Refusal::Audit),
         }
-        Ok(count)
     }
 }
 

@@ -1,7 +1,7 @@
 //! A server over TCP: threads serve connections side by side on one manager. The outcomes that
 //! `serve_on` returns agree with the manager's history. `serve_endless` keeps no outcomes: each
 //! transaction has one, of which the history has the replies, in order, and the commit or the abort. A
-//! base was loaded as its lines and answers say, and its outcomes are among these. That these are the
+//! base was loaded piece by piece, as its lines and answers say, and its outcomes are among these. That these are the
 //! outcomes of all sessions, that sessions run at once, that slow or silent clients stop nobody else,
 //! that log messages and traces are written, and that memory stays flat is only tested.
 #![tactic(auto)]
@@ -12,6 +12,7 @@ mod ending;
 mod endless;
 mod gathering;
 mod guarded_desk;
+mod loader;
 mod operating;
 mod operator;
 mod options;
@@ -26,6 +27,9 @@ mod trace_keeping;
 mod tuning;
 
 pub use endless::{ServedEndless, serve_endless};
-pub use operating::{Admin, EndSignal, Load, NoSignal, Operating, TraceFile};
+pub use operating::{
+    Admin, BaseFile, BaseSource, EndSignal, LoadFailure, NoBase, NoBaseFile, NoSignal, Operating,
+    Piece, TraceFile,
+};
 pub use options::ServeOptions;
 pub use serving::{Served, serve_on};

@@ -1,26 +1,30 @@
 //! What an operator sees and does.
 
-use crate::operating::Admin;
+use crate::operating::{Admin, BaseFile};
 use crate::service::{Service, elapsed};
+use crate::tuning::{BUCKETS_PER_HOLD, HOLDS_PER_LIST, LIST_PAUSE_MICROSECONDS};
+use mlt_object_base::Base;
 use mlt_object_kinds::Done;
-use mlt_page::{Page, Slot};
+use mlt_page::{Bucket, Slot};
 use mlt_script_serial::Outcome;
 use mlt_serve_admin::{
-    Counts, KeyRange, ObjectView, Operated, ServerView, SessionView, TimesView, TransactionView,
-    WaitReason, WaitView, serve_admin,
+    Counts, NotSaved, ObjectView, ObjectsView, Operated, ServerView, SessionView, TimesView,
+    TransactionView, WaitReason, WaitView, WantedObjects, serve_admin,
 };
 use mlt_serve_connections::refuse_all;
 use mlt_serve_seats::{BOUNDS, Cut, Histogram, Note, OpenTransaction, SessionState};
 use mlt_trace::KeptItem;
-use mlt_types::{PageNo, Pseudo};
+use mlt_types::{Pseudo, Refusal};
 use mlt_work_desk::{DeskStatistics, MadeWith};
 use mlt_work_waits::Waiting;
 use std::alloc::{AllocError, Global};
+use std::io::ErrorKind;
 use std::mem::size_of;
 use std::net::{SocketAddr, TcpListener};
-use std::sync::Wait;
 use std::sync::atomic::{AtomicBool, Ordering};
-use std::time::{Clock, Instant};
+use std::sync::{Mutex, Wait};
+use std::thread;
+use std::time::{Clock, Duration, Instant};
 
 /// How many bytes an item of the history takes, an outcome, and an operation of one.
 const ITEM_BYTES: u64 = size_of::<KeptItem>() as u64;
@@ -29,29 +33,41 @@ const OUTCOME_BYTES: u64 = size_of::<Outcome>() as u64;
 
 const OPERATION_BYTES: u64 = size_of::<Done>() as u64;
 
-/// How many more objects are held than are wanted, at most, before the first are looked for.
-const MOST_FOUND: usize = 4_096;
-
 /// What an operator sees, and can do.
 #[derive(Drop)]
-pub(crate) struct Operator<'a, 'b, 'c, 'd, P: Pseudo, L: MadeWith<P>, R: Wait + Clock> {
+pub(crate) struct Operator<'a, 'b, 'c, 'd, P: Pseudo, L: MadeWith<P>, R: Wait + Clock, F> {
     rt: &'a R,
     service: &'b Service<'c, P, L>,
     /// Where it connects.
     admin: Admin<'d>,
+    /// Where the base is saved, if it may be.
+    save: Option<&'d Mutex<F>>,
     /// Since when the server listens, if a clock could say so.
     since: Option<Instant>,
+    /// Whoever has it copies buckets for a list.
+    listing: Mutex<()>,
     /// Whether the server is over.
     is_over: AtomicBool,
 }
 
-impl<'a, 'b, 'c, 'd, P: Pseudo, L: MadeWith<P>, R: Wait + Clock> Operator<'a, 'b, 'c, 'd, P, L, R> {
-    /// One that connects there, to a server that listens from now on. A note tells if others than this machine can.
+impl<'a, 'b, 'c, 'd, P: Pseudo, L: MadeWith<P>, R: Wait + Clock, F: BaseFile> Operator<
+    'a,
+    'b,
+    'c,
+    'd,
+    P,
+    L,
+    R,
+    F,
+> {
+    /// One that connects there, to a server that listens from now on, whose base may be saved there. A note tells if others than this
+    /// machine can.
     pub(crate) fn new(
         rt: &'a R,
         service: &'b Service<'c, P, L>,
         admin: Admin<'d>,
-    ) -> Operator<'a, 'b, 'c, 'd, P, L, R> {
+        save: Option<&'d Mutex<F>>,
+    ) -> Operator<'a, 'b, 'c, 'd, P, L, R, F> {
         if let Some(address) = open_address(admin.listener) {
             service.notes.tell(rt, Note::OpenAdmin(address));
         }
@@ -59,7 +75,9 @@ impl<'a, 'b, 'c, 'd, P: Pseudo, L: MadeWith<P>, R: Wait + Clock> Operator<'a, 'b
             rt,
             service,
             admin,
+            save,
             since: Instant::now(rt).ok(),
+            listing: Mutex::new(()),
             is_over: AtomicBool::new(false),
         }
     }
@@ -74,6 +92,34 @@ impl<'a, 'b, 'c, 'd, P: Pseudo, L: MadeWith<P>, R: Wait + Clock> Operator<'a, 'b
     pub(crate) fn end(&self) {
         self.is_over.store(true, Ordering::SeqCst);
         refuse_all(self.admin.listener);
+    }
+
+    /// The base to which the transactions lead that have committed now, and how many these are. The manager's lock is held while what it is
+    /// made of is copied, and no longer.
+    ///
+    /// # Errors
+    /// `OutOfMemory`, where a growth was refused.
+    fn committed(&self) -> Result<(Base, u64), Refusal> {
+        let image = self.service.shared.image(self.rt)?;
+        Ok((image.base()?, image.commits()))
+    }
+
+    /// Adds the next buckets from this place on, and pauses: so all lists together have the manager's lock for a small part of the time,
+    /// however many are asked for. Returns the place of the next one, if there are more.
+    ///
+    /// # Errors
+    /// Where a growth is refused.
+    fn copy_buckets(
+        &self,
+        from: u16,
+        buckets: &mut Vec<Bucket>,
+    ) -> Result<Option<u16>, AllocError> {
+        let shared = self.service.shared;
+        let listing = self.listing.lock(self.rt);
+        let next = shared.copy_buckets(self.rt, from, BUCKETS_PER_HOLD, buckets);
+        thread::sleep(self.rt, Duration::from_micros(LIST_PAUSE_MICROSECONDS));
+        drop(listing);
+        next
     }
 
     fn counts(&self, statistics: &DeskStatistics, sessions: usize, now: Option<Instant>) -> Counts {
@@ -97,6 +143,7 @@ impl<'a, 'b, 'c, 'd, P: Pseudo, L: MadeWith<P>, R: Wait + Clock> Operator<'a, 'b
             session_threads: running.load(Ordering::SeqCst),
             queued: door.queued(),
             connections: door.accepted(),
+            refused: door.refused(),
             limit: options.connections,
             open: totals.open(),
             begun: totals.begun,
@@ -116,6 +163,8 @@ impl<'a, 'b, 'c, 'd, P: Pseudo, L: MadeWith<P>, R: Wait + Clock> Operator<'a, 'b
             room: options.room(),
             has_trace: self.service.has_trace,
             trace_failed: notes.has_trace_failed(),
+            can_save: self.save.is_some(),
+            is_loading: self.service.is_loading.load(Ordering::SeqCst),
             is_stopping: door.stops(),
             transaction_times: times_view(&times.transactions),
             wait_times: times_view(&times.waits),
@@ -134,7 +183,8 @@ impl<'a, 'b, 'c, 'd, P: Pseudo, L: MadeWith<P>, R: Wait + Clock> Operator<'a, 'b
     }
 }
 
-impl<P: Pseudo, L: MadeWith<P>, R: Wait + Clock> Operated for Operator<'_, '_, '_, '_, P, L, R> {
+impl<P: Pseudo, L: MadeWith<P>, R: Wait + Clock, F: BaseFile> Operated
+    for Operator<'_, '_, '_, '_, P, L, R, F> {
     fn view(&self, alloc: Global) -> Result<ServerView, AllocError> {
         let now = Instant::now(self.rt).ok();
         let statistics = self.service.shared.statistics(self.rt);
@@ -161,45 +211,39 @@ impl<P: Pseudo, L: MadeWith<P>, R: Wait + Clock> Operated for Operator<'_, '_, '
         })
     }
 
-    fn objects(
-        &self,
-        alloc: Global,
-        range: &KeyRange,
-        most: usize,
-    ) -> Result<Vec<ObjectView>, AllocError> {
-        let mut found = Vec::new(alloc);
-        let numbers = usize::try_from(self.service.options.most_pages());
-        let mut are_seen = Vec::new(alloc);
-        are_seen.resize(numbers.unwrap_or(usize::MAX), false)?;
-        let mut seen = 0_usize;
-        // A page is there for good once the operation that makes it is done, and a record moves only to one that is made then, maybe under
-        // a number that was free. So none is missed once as many pages are seen as there are, or a look at all others finds none.
-        for _ in self.rt.forever() {
-            let before = seen;
-            let pages = self.service.shared.statistics(self.rt).pages;
-            for (number, is_seen) in are_seen.iter_mut().enumerate() {
-                if seen == pages {
-                    break;
-                }
-                if *is_seen {
-                    continue;
-                }
-                let number = PageNo(u32::try_from(number).unwrap_or(u32::MAX));
-                if let Some(page) = &self.service.shared.clean_page(self.rt, number) {
-                    *is_seen = true;
-                    seen = seen.saturating_add(1);
-                    push_objects(&mut found, page, range)?;
-                }
-                if found.len() >= MOST_FOUND.saturating_add(most) {
-                    keep_first(&mut found, most);
-                }
-            }
-            if seen == before {
+    fn objects(&self, alloc: Global, wanted: &WantedObjects) -> Result<ObjectsView, AllocError> {
+        let mut objects = Vec::new(alloc);
+        let mut buckets = Vec::with_capacity(alloc, BUCKETS_PER_HOLD)?;
+        let mut next = Some(wanted.from);
+        for _ in 0..HOLDS_PER_LIST {
+            let Some(from) = next else {
+                break;
+            };
+            if objects.len() >= wanted.enough {
                 break;
             }
+            buckets.clear();
+            next = self.copy_buckets(from, &mut buckets)?;
+            for bucket in &buckets {
+                push_objects(&mut objects, bucket, wanted)?;
+            }
         }
-        keep_first(&mut found, most);
-        Ok(found)
+        Ok(ObjectsView { objects, next })
+    }
+
+    fn save(&self) -> Result<u64, NotSaved> {
+        let file = self.save.ok_or(NotSaved::NoFile)?;
+        if self.service.is_loading.load(Ordering::SeqCst) {
+            return Err(NotSaved::Loading);
+        }
+        let mut file = file.try_lock().ok_or(NotSaved::Busy)?;
+        let Ok((base, commits)) = self.committed() else {
+            return Err(NotSaved::Failed(ErrorKind::OutOfMemory.into()));
+        };
+        match file.save(&base, commits) {
+            Ok(()) => Ok(commits),
+            Err(error) => Err(NotSaved::Failed(error)),
+        }
     }
 
     fn stop(&self) {
@@ -223,31 +267,21 @@ fn open_address(listener: &TcpListener) -> Option<SocketAddr> {
     (!is_loopback).then_some(address)
 }
 
-/// Adds the objects of a page that are in the range.
+/// Adds the objects of a bucket that are wanted.
 fn push_objects(
-    found: &mut Vec<ObjectView>,
-    page: &Page,
-    range: &KeyRange,
+    objects: &mut Vec<ObjectView>,
+    bucket: &Bucket,
+    wanted: &WantedObjects,
 ) -> Result<(), AllocError> {
-    let Page::Bucket(bucket) = page else {
-        return Ok(());
-    };
     for slot in &bucket.slots {
         if let Slot::Live(key, value) = *slot {
             let key = key.number();
-            if range.first <= key && key <= range.last {
-                found.push(ObjectView { key, value })?;
+            if wanted.first <= key && key <= wanted.last {
+                objects.push(ObjectView { key, value })?;
             }
         }
     }
     Ok(())
-}
-
-/// Keeps the first objects by their keys, as many as that, each once.
-fn keep_first(found: &mut Vec<ObjectView>, most: usize) {
-    found.sort_unstable_by_key(|object| object.key);
-    found.dedup_by_key(|object| object.key);
-    found.truncate(most);
 }
 
 fn times_view(times: &Histogram) -> TimesView {

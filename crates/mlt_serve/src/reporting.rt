@@ -1,6 +1,6 @@
 //! The outcomes, once all connections are served.
 
-ghost use Rattle.std.specs.Prelude.{◌≡◌, ◌≤◌, ◌↔◌, IfErr, IfOk, IsPermutation, IsTrue, OnOk, [], false};
+ghost use Rattle.std.specs.Prelude.{◌≡◌, ◌+◌, ◌≤◌, ◌↔◌, IfErr, IfOk, IsPermutation, IsTrue, OnOk, [], false};
 ghost use Rattle.mlt_trace_audit.specs.Agreement.{Agrees};
 ghost use Rattle.mlt_serve.specs.Clients.{AreByClientAndNumber, AreNumbered, AreOfClients, ComesNext, IsOfClient};
 ghost use Rattle.mlt_serve.specs.Endings.{HasAccepted, IsOfServer, IsRefusedFor};
@@ -62,6 +62,7 @@ fn in_order(outcomes: Vec<Outcome>) -> Vec<Outcome>
 pub(crate) fn outcomes_of<P: Pseudo>(
     alloc: Global,
     accepting: Accepting,
+    loaded: u32,
     gathered: Gathered<Vec<Outcome>>,
     limit: u64,
     manager: &Manager<P>,
@@ -69,18 +70,20 @@ pub(crate) fn outcomes_of<P: Pseudo>(
     requires { manager.now.shared.history.handed ≡ [] }
     ensures same { IfOk result (λ outcomes. IsPermutation gathered.outcomes.items outcomes) }
     ensures agrees { IfOk result (λ outcomes. Agrees outcomes manager.now.shared.history.items) }
-    ensures clients { IfOk result (λ outcomes. AreOfClients accepting.connections outcomes) }
+    ensures clients { IfOk result
+        (λ outcomes. AreOfClients (loaded + accepting.connections) outcomes) }
     ensures order { IfOk result (λ outcomes. AreNumbered 0 0 outcomes) }
     ensures ended { IfOk result
         (λ _. HasAccepted limit accepting.connections accepting.end) }
-    ensures served { IfOk result (λ _. gathered.connections ≡ accepting.connections) }
+    ensures served { IfOk result
+        (λ _. gathered.connections ≡ loaded + accepting.connections) }
     ensures whole { OnOk result (gathered.is_short ≡ false) }
     ensures why { IsRefusedFor accepting.end gathered.is_short result }
     ensures refusal { IfErr result IsOfServer }
 {
-    let accepted = gathered.served(accepting, limit)?;
+    let served = gathered.served(accepting, loaded, limit)?;
     let outcomes = in_order(gathered.outcomes);
-    if !are_numbered(outcomes.as_slice(), accepted) {
+    if !are_numbered(outcomes.as_slice(), served) {
         return Err(Refusal::Audit);
     }
     let Some(history) = manager.history() else {

@@ -33,6 +33,8 @@ pub(crate) struct Service<'a, P: Pseudo, L: MadeWith<P>> {
     pub(crate) has_trace: bool,
     /// Whether the history is taken out of the manager as the server goes, and outcomes are not kept.
     pub(crate) is_endless: bool,
+    /// Whether the base is still loaded.
+    pub(crate) is_loading: &'a AtomicBool,
     /// Whether no transaction begins, since too much waits for the trace.
     pub(crate) refuses_begins: &'a AtomicBool,
     ghost endless: { is_endless ≡ true → L.hands_out ≡ true },

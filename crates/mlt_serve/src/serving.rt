@@ -1,6 +1,6 @@
 //! Connections that are accepted and served.
 
-ghost use Rattle.std.specs.Prelude.{◌≡◌, ◌<◌, ◌≤◌, IfErr, IfOk, IsOkUnless, Some, [], false, true};
+ghost use Rattle.std.specs.Prelude.{◌≡◌, ◌+◌, ◌<◌, ◌≤◌, IfErr, IfOk, IsOkUnless, Some, [], false, length, true};
 ghost use Rattle.mlt_manager.specs.Openings.{IsMadeWith};
 ghost use Rattle.mlt_work_log.specs.Seats.{id_of};
 ghost use Rattle.mlt_work_desk.specs.Makings.{making_by};
@@ -13,9 +13,10 @@ ghost use Rattle.mlt_serve.specs.Endings.{HasAccepted, IsOfServer};
 ghost use Rattle.mlt_serve.specs.Loads.{HasLoaded};
 ghost use Rattle.mlt_serve.specs.Tellings.{HaveBegun, TellsOutcomes};
 
+use crate::accepting::Accepting;
 use crate::door::Door;
 use crate::gathering::{Gathered, gather, new_threads};
-use crate::operating::{EndSignal, Operating, TraceFile};
+use crate::operating::{BaseFile, BaseSource, EndSignal, Operating, TraceFile};
 use crate::options::ServeOptions;
 use crate::reporting::outcomes_of;
 use crate::service::Service;
@@ -40,12 +41,14 @@ use std::time::Clock;
 
 /// What became of the connections.
 #[derive(Drop)]
-pub struct Served<P: Pseudo> {
+pub struct Served<P: Pseudo, B> {
+    /// The base, which was loaded.
+    pub base: B,
     /// What clients were told, by client and then by number.
     pub outcomes: Outcomes,
     /// The manager, with the history of all that was done.
     pub manager: Manager<P>,
-    /// How many connections were accepted, and served.
+    /// How many connections were accepted, and served. Those that have loaded the base are not among them.
     pub connections: u64,
     /// How the accepting ended: by the limit, or since the server was to end.
     pub end: ListenerEnd,
@@ -54,31 +57,37 @@ pub struct Served<P: Pseudo> {
 }
 
 /// What became of the connections, before it is looked at whether the manager knows of it.
-pub(crate) struct Ended<P: Pseudo, K: Receipts> {
-    /// What was accepted, and what became of the trace.
-    pub(crate) ran: Ran,
+pub(crate) struct Ended<P: Pseudo, K: Receipts, B> {
+    /// The base, which was loaded.
+    pub(crate) base: B,
+    /// How many connections have loaded it.
+    pub(crate) loaded: u32,
+    pub(crate) accepting: Accepting,
+    /// Why the trace was not written whole, if so.
+    pub(crate) trace_failure: Option<io::Error>,
     /// What all sessions have done.
     pub(crate) gathered: Gathered<K>,
     /// The manager, with the history of all that was done and not taken out of it.
     pub(crate) manager: Manager<P>,
 }
 
-/// Serves connections on a new manager, by sessions whose outcomes these receipts take. The history is taken out of it as it goes, or
+/// Loads a base and serves connections on a new manager, by sessions whose outcomes these receipts take. The history is taken out of it as it goes, or
 /// stays in it.
 ///
 /// # Errors
 /// `OutOfMemory`, where a growth or a thread was refused, or a base not loaded, before a connection was accepted.
 #[tactic(auto, using(crate::proofs::Loading::among))]
-pub(crate) fn serve_with<P, L, K, R, N, T, S>(
+pub(crate) fn serve_with<P, L, K, R, N, T, S, F, B>(
     rt: &R,
     alloc: Global,
     records: BlankRecords,
     listener: &TcpListener,
     pseudo: P,
     options: &ServeOptions,
-    operating: Operating<'_, N, T, S>,
+    operating: Operating<'_, N, T, S, F>,
+    base: B,
     is_endless: bool,
-) -> Result<Ended<P, K>, Refusal>
+) -> Result<Ended<P, K, B>, Refusal>
 where
     P: Pseudo + Drop + Send,
     L: MadeWith<P> + Send + Sync,
@@ -87,6 +96,9 @@ where
     N: Write + Send + Drop + 'static,
     T: TraceFile + Send + Drop + 'static,
     S: EndSignal + Send + Drop,
+    F: BaseFile + Send,
+    B: BaseSource + Drop,
+    requires base { B.given base ≡ [] }
     requires name { records.blank.name ≡ L.name }
     requires parts { records.blank.parts ≡ L.parts }
     requires log { id_of records.log ≡ L.log_id }
@@ -114,7 +126,9 @@ where
         → HaveBegun ended.manager.shared.history.items
         (K.receipts ended.gathered.outcomes)) }
     ensures loaded { IfOk result (λ ended. ended.gathered.is_short ≡ false
-        → HasLoaded operating.entry.load (K.receipts ended.gathered.outcomes)) }
+        → HasLoaded (B.given ended.base) (K.receipts ended.gathered.outcomes)) }
+    ensures over { IfOk result (λ ended. B.is_over ended.base ≡ true) }
+    ensures count { IfOk result (λ ended. ended.loaded ≡ length (B.given ended.base)) }
     ensures refusal { IsOkUnless result Refusal.OutOfMemory }
 {
     let BlankRecords {
@@ -124,7 +138,7 @@ where
     } = records;
     let (book, mut all) = blank.open::<L>();
     let mut threads = new_threads(alloc, &mut all, &log, &mut writer, options.sessions)?;
-    let mut loader = SessionThread::new(alloc, &mut all, &log, &mut writer);
+    let loader = SessionThread::new(alloc, &mut all, &log, &mut writer);
     let (notes, outlet) = Notes::new(alloc)?;
     let state = LockedState::new(alloc, options.limits, pseudo, book, writer)?;
     let shared = Shared::new(log, state);
@@ -140,6 +154,7 @@ where
         is_watched: operating.admin.is_some() || options.open.is_some(),
         has_trace: operating.trace.is_some(),
         is_endless,
+        is_loading: &AtomicBool::new(true),
         refuses_begins: &AtomicBool::new(false),
     };
     let ran = service.run(
@@ -147,17 +162,28 @@ where
         alloc,
         outlet,
         operating,
-        &mut loader,
+        base,
+        loader,
         threads.as_mut_slice(),
     );
     notes.end(rt);
     match ran {
         Ok(ran) => {
+            let Ran {
+                base,
+                loaded,
+                loader,
+                accepting,
+                trace_failure,
+            } = ran;
             let mut desks = shared.unlock();
             let gathered = gather(alloc, &mut all, loader, threads, &mut desks);
             let manager = desks.close(&mut all);
             Ok(Ended {
-                ran,
+                base,
+                loaded,
+                accepting,
+                trace_failure,
                 gathered,
                 manager,
             })
@@ -169,9 +195,10 @@ where
     }
 }
 
-/// Serves connections on a new manager, with these options: accepts as many as they say, or fewer where the server is to end before,
-/// and hands them to the session threads by a bounded channel. Connections have the numbers 1, 2, 3 in the order in which they are
-/// accepted, and 1 again after 4,294,967,295; each is served by one session, whose transactions have that number as their client. An
+/// Loads a base into a new manager, and then serves connections on it, with these options: accepts as many as they say, or fewer where the server is to end before,
+/// and hands them to the session threads by a bounded channel. Each piece of the base is a connection too. Connections have the numbers
+/// 1, 2, 3, first those of the base and then others in the order in which they are accepted, and 1 again after 4,294,967,295; each is
+/// served by one session, whose transactions have that number as their client. An
 /// operation that waits or is blocked gets `GaveUp` once its tries are used up, or it has waited for too long. The outcomes stand by
 /// client and then by number.
 ///
@@ -190,21 +217,25 @@ where
 /// neither came, and the outcomes do not agree with the manager's history or not all connections were served. All threads are
 /// joined but those that write notes and the trace: they are waited for 5 seconds at most, and have nothing of the others.
 #[tactic(auto, using(crate::proofs::Loading::reordered, crate::proofs::Receiving::reordered_given))]
-pub fn serve_on<P: Pseudo + Drop + Send, R, N, T, S>(
+pub fn serve_on<P: Pseudo + Drop + Send, R, N, T, S, F, B>(
     rt: &R,
     alloc: Global,
     listener: &TcpListener,
     pseudo: P,
     options: &ServeOptions,
-    operating: Operating<'_, N, T, S>,
-) -> Result<Served<P>, Refusal>
+    operating: Operating<'_, N, T, S, F>,
+    base: B,
+) -> Result<Served<P, B>, Refusal>
 where
     R: Threads + Wait + Clock + Sync + Send + Copy + 'static,
     N: Write + Send + Drop + 'static,
     T: TraceFile + Send + Drop + 'static,
     S: EndSignal + Send + Drop,
+    F: BaseFile + Send,
+    B: BaseSource + Drop,
     requires some { 0 < options.now.sessions }
     requires most { options.now.sessions ≤ 64 }
+    requires base { B.given base ≡ [] }
     // the manager has these limits and this function from keys to pseudokeys
     ensures made { IfOk result (λ got. IsMadeWith got.manager options.now.limits pseudo) }
     // all of its history is there
@@ -217,22 +248,29 @@ where
     // each was told at a desk with the tries of the options for each operation
     ensures given { IfOk result
         (λ got. AreGiven P.bits_of (PerOperation options.now.tries) got.outcomes) }
-    // each outcome is that of one of the connections
-    ensures clients { IfOk result (λ got. AreOfClients got.connections got.outcomes) }
-    // these are no more than the options say, and as many where the accepting ended by that
+    // each outcome is that of a connection, one for each piece of the base or one that was accepted
+    ensures clients { IfOk result
+        (λ got. AreOfClients (length (B.given got.base) + got.connections) got.outcomes) }
+    // those accepted are no more than the options say, and as many where the accepting ended by that
     ensures ended { IfOk result
         (λ got. HasAccepted options.now.connections got.connections got.end) }
     // they stand by client, and those of each client have the numbers 1, 2, 3 and so on
     ensures order { IfOk result (λ got. AreNumbered 0 0 got.outcomes) }
-    // if there is a base to load, connection 1 heard all lines of it and was told just its answers, and its outcomes are among these
-    ensures loaded { IfOk result (λ got. HasLoaded operating.entry.load got.outcomes) }
+    // connections 1, 2, 3 and so on heard all lines of one piece of the base each and were told just its answers, and their outcomes are
+    // among these
+    ensures loaded { IfOk result (λ got. HasLoaded (B.given got.base) got.outcomes) }
+    // no more pieces follow
+    ensures over { IfOk result (λ got. B.is_over got.base ≡ true) }
     ensures refusal { IfErr result IsOfServer }
 {
     let Ended {
-        ran,
+        base,
+        loaded,
+        accepting,
+        trace_failure,
         gathered,
         manager,
-    } = serve_with::<P, Brand, Vec<Outcome>, R, N, T, S>(
+    } = serve_with::<P, Brand, Vec<Outcome>, R, N, T, S, F, B>(
         rt,
         alloc,
         BlankRecords::new(alloc, 131)?,
@@ -240,21 +278,24 @@ where
         pseudo,
         options,
         operating,
+        base,
         false,
     )?;
     match outcomes_of(
         alloc,
-        ran.accepting,
+        accepting,
+        loaded,
         gathered,
         options.connections,
         &manager,
     ) {
         Ok(outcomes) => Ok(Served {
+            base,
             outcomes,
             manager,
-            connections: ran.accepting.connections,
-            end: ran.accepting.end,
-            trace_failure: ran.trace_failure,
+            connections: accepting.connections,
+            end: accepting.end,
+            trace_failure,
         }),
         Err(refusal) => {
             manager.close();

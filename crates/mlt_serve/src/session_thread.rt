@@ -1,9 +1,9 @@
 //! One session thread.
 
-ghost use Rattle.std.specs.Prelude.{◌≡◌, ◌≤◌, ◌+◌, ◌-◌, ◌^◌, [], Err, IfSome, IsOk, None, OnOk, Some, false, min, true};
+ghost use Rattle.std.specs.Prelude.{◌≡◌, ◌≤◌, ◌+◌, ◌-◌, ◌^◌, [], Err, IsOk, None, OnOk, Some, false, min, true};
 ghost use Rattle.mlt_serve.specs.Clients.{AreOfClients, GrowsFor};
 ghost use Rattle.mlt_serve.specs.Desks.{AreGiven, IsSessionAt};
-ghost use Rattle.mlt_serve.specs.Loads.{Heard, IsHeard, ends};
+ghost use Rattle.mlt_serve.specs.Loads.{Heard, ends};
 ghost use Rattle.mlt_serve.specs.Tellings.{TellsOutcomes, txs_of};
 ghost use Rattle.mlt_work_desk.specs.declared.tries.Tries.TheVariants.{PerOperation};
 ghost use Rattle.mlt_work_log.specs.Prefixes.{StartsWith};
@@ -11,7 +11,6 @@ ghost use Rattle.mlt_work_log.specs.Seats.{IsOf, IsWriterOf, begun_by, first_ite
 
 use crate::accepting::Connection;
 use crate::guarded_desk::GuardedDesk;
-use crate::operating::Load;
 use crate::service::Service;
 use crossbeam_channel::Receiver;
 use mlt_serve_connections::{Admission, Outside, Socket, SocketFailure, lingering_close};
@@ -96,7 +95,7 @@ impl<P: Pseudo, L: MadeWith<P>, K: Receipts + Drop> SessionThread<P, L, K> {
     ///
     /// # Errors
     /// As those of `session`.
-    fn serve<R: Wait + Clock, I: Read, O: Write>(
+    pub(crate) fn serve<R: Wait + Clock, I: Read, O: Write>(
         &mut self,
         rt: &R,
         alloc: Global,
@@ -210,37 +209,6 @@ impl<P: Pseudo, L: MadeWith<P>, K: Receipts + Drop> SessionThread<P, L, K> {
         lingering_close(rt, &stream);
         self.is_short = self.is_short || refused;
         refused
-    }
-
-    /// Loads a base, if there is one, as connection 1, before any other is accepted. It answers whether all lines of it were heard, and
-    /// answered as it says.
-    #[tactic(auto, using(crate::proofs::Loading::all_heard))]
-    pub(crate) fn load<R: Wait + Clock>(
-        &mut self,
-        rt: &R,
-        alloc: Global,
-        service: &Service<'_, P, L>,
-        load: Option<Load<'_>>,
-    ) -> bool
-        requires { K.receipts self.old.outcomes ≡ [] }
-        ensures { result ≡ true → IfSome load.entry (λ load.
-            IsHeard 1 load.lines.now load.answers.now (K.receipts self.new.outcomes)) }
-    {
-        let Some(load) = load else {
-            return true;
-        };
-        service.door.count_accepted();
-        service.door.count_taken();
-        let admission = service.admission(rt, service.seats.seat(0));
-        let mut lines = load.lines;
-        let mut answers = Vec::new(alloc);
-        let ended = self.serve(rt, alloc, service, &admission, 1, &mut lines, &mut answers);
-        admission.close();
-        service.door.count_ended();
-        if ended.is_err() {
-            return false;
-        }
-        lines.is_empty() && answers.as_slice() == load.answers
     }
 
     /// Serves one connection after the other at a seat, until no more come. Where memory is refused no more are let in.

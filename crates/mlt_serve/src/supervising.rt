@@ -91,7 +91,7 @@ impl<P: Pseudo, L: MadeWith<P>, R: Wait + Clock> Supervisor<'_, '_, '_, P, L, R>
 
     /// Tells once where fewer threads run than were asked for, and none of them is only late.
     fn count_threads(&mut self) {
-        if self.looks_for_threads == 0 {
+        if self.looks_for_threads == 0 || self.service.is_loading.load(Ordering::SeqCst) {
             return;
         }
         let running = self.service.running.load(Ordering::SeqCst);

@@ -1,6 +1,6 @@
 //! The counts of the outcomes, once all connections are served.
 
-ghost use Rattle.std.specs.Prelude.{◌≡◌, ◌≤◌, IfErr, IfOk, OnOk, length, false};
+ghost use Rattle.std.specs.Prelude.{◌≡◌, ◌+◌, ◌≤◌, IfErr, IfOk, OnOk, length, false};
 ghost use Rattle.mlt_serve_session.specs.Tallies.{commits_told};
 ghost use Rattle.mlt_serve.specs.Clients.{AreOfClients};
 ghost use Rattle.mlt_serve.specs.Endings.{HasAccepted, IsOfServer, IsRefusedFor};
@@ -20,6 +20,7 @@ use mlt_types::{Pseudo, Refusal};
 /// where one is open.
 pub(crate) fn tally_of<P: Pseudo>(
     accepting: Accepting,
+    loaded: u32,
     gathered: Gathered<Tally>,
     limit: u64,
     manager: &Manager<P>,
@@ -35,7 +36,7 @@ pub(crate) fn tally_of<P: Pseudo>(
     ensures commits { IfOk result
         (λ tally. commits_told tally.told.items ≡ manager.now.commits) }
     ensures clients { IfOk result
-        (λ tally. AreOfClients accepting.connections tally.told.items) }
+        (λ tally. AreOfClients (loaded + accepting.connections) tally.told.items) }
     ensures told { IfOk result
         (λ tally. TellsOutcomes manager.now.shared.history.items tally.told.items) }
     ensures numbers { IfOk result
@@ -44,13 +45,14 @@ pub(crate) fn tally_of<P: Pseudo>(
         (λ tally. HaveCloses manager.now.shared.history.items tally.told.items) }
     ensures ended { IfOk result
         (λ _. HasAccepted limit accepting.connections accepting.end) }
-    ensures served { IfOk result (λ _. gathered.connections ≡ accepting.connections) }
+    ensures served { IfOk result
+        (λ _. gathered.connections ≡ loaded + accepting.connections) }
     ensures whole { OnOk result (gathered.is_short ≡ false) }
     ensures why { IsRefusedFor accepting.end gathered.is_short result }
     ensures refusal { IfErr result IsOfServer }
 {
-    let accepted = gathered.served(accepting, limit)?;
-    if u64::from(gathered.last) > accepted {
+    let served = gathered.served(accepting, loaded, limit)?;
+    if u64::from(gathered.last) > served {
         return Err(Refusal::Audit);
     }
     let tally = gathered.outcomes;

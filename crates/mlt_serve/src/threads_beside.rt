@@ -1,12 +1,12 @@
 //! The threads of a server: those of sessions, the one that accepts, and those beside them for notes, for the trace, for the operator, and
 //! one that looks after all sessions.
 
-ghost use Rattle.std.specs.Prelude.{◌≡◌, ◌<◌, [], IfSome, IsOkUnless, OnOk, length};
-ghost use Rattle.mlt_serve.specs.Loads.{IsHeard};
+ghost use Rattle.std.specs.Prelude.{◌≡◌, ◌<◌, [], IfOk, IfSome, IsOkUnless, length, true};
+ghost use Rattle.mlt_serve.specs.Loads.{AreHeard};
 
 use crate::accepting::{Accepting, accept_all};
 use crate::ending::DoneSignal;
-use crate::operating::{EndSignal, Operating, TraceFile};
+use crate::operating::{BaseFile, BaseSource, EndSignal, Operating, TraceFile};
 use crate::operator::Operator;
 use crate::service::Service;
 use crate::session_thread::SessionThread;
@@ -19,13 +19,20 @@ use mlt_work_desk::MadeWith;
 use std::alloc::{AllocError, Global};
 use std::io::Write;
 use std::sync::Wait;
-use std::thread::Threads;
+use std::sync::atomic::Ordering;
+use std::thread::{JoinHandle, Threads};
 use std::time::Clock;
 use std::{io, thread};
 
-/// What became of the connections, and of the trace.
+/// What became of the base, of the connections, and of the trace.
 #[derive(Drop)]
-pub(crate) struct Ran {
+pub(crate) struct Ran<P: Pseudo, L: MadeWith<P>, K: Receipts, B> {
+    /// The base, which was loaded.
+    pub(crate) base: B,
+    /// How many connections have loaded it.
+    pub(crate) loaded: u32,
+    /// What has served these.
+    pub(crate) loader: SessionThread<P, L, K>,
     pub(crate) accepting: Accepting,
     /// Why the trace was not written whole, if so.
     pub(crate) trace_failure: Option<io::Error>,
@@ -53,10 +60,17 @@ where
     Ok(())
 }
 
+/// Joins a thread, if it runs.
+fn join<R: Threads + Wait>(rt: &R, handle: Option<JoinHandle<()>>) {
+    if let Some(handle) = handle {
+        handle.join(rt);
+    }
+}
+
 impl<'a, P: Pseudo + Send, L: MadeWith<P> + Send + Sync> Service<'a, P, L> {
-    /// Loads a base, if there is one, and serves connections: accepts them in one thread and serves them in others, or in this one where
-    /// they are refused. Beside them others write notes and the trace, keep the trace or take the history out of the manager, look after
-    /// the sessions, and answer the operator. All are joined but the two that write.
+    /// Loads a base, and serves connections: accepts them in one thread and serves them in others, or in this one where they are refused.
+    /// Meanwhile others write notes and the trace, keep the trace or take the history out of the manager, look after the sessions, and
+    /// answer the operator. All are joined but the two that write.
     ///
     /// # Errors
     /// `OutOfMemory`, where the base is not loaded, or memory or one of the threads is refused that neither serve connections nor are the
@@ -67,19 +81,25 @@ impl<'a, P: Pseudo + Send, L: MadeWith<P> + Send + Sync> Service<'a, P, L> {
         N: Write + Send + Drop + 'static,
         T: TraceFile + Send + Drop + 'static,
         S: EndSignal + Send + Drop,
+        F: BaseFile + Send,
+        B: BaseSource + Drop,
     >(
         &self,
         rt: &R,
         alloc: Global,
         outlet: Outlet,
-        operating: Operating<'_, N, T, S>,
-        loader: &mut SessionThread<P, L, K>,
+        operating: Operating<'_, N, T, S, F>,
+        base: B,
+        loader: SessionThread<P, L, K>,
         threads: &mut [SessionThread<P, L, K>],
-    ) -> Result<Ran, Refusal>
+    ) -> Result<Ran<P, L, K, B>, Refusal>
         requires some { 0 < length threads.old }
-        requires fresh { K.receipts loader.old.outcomes ≡ [] }
-        ensures loaded { OnOk result (IfSome operating.entry.load (λ load.
-            IsHeard 1 load.lines.now load.answers.now (K.receipts loader.new.outcomes))) }
+        requires loader { K.receipts loader.outcomes ≡ [] }
+        requires base { B.given base ≡ [] }
+        ensures heard { IfOk result
+            (λ ran. AreHeard 1 (B.given ran.base) (K.receipts ran.loader.outcomes)) }
+        ensures over { IfOk result (λ ran. B.is_over ran.base ≡ true) }
+        ensures count { IfOk result (λ ran. ran.loaded ≡ length (B.given ran.base)) }
         ensures refusal { IsOkUnless result Refusal.OutOfMemory }
     {
         let Operating {
@@ -88,39 +108,46 @@ impl<'a, P: Pseudo + Send, L: MadeWith<P> + Send + Sync> Service<'a, P, L> {
             trace,
             signal,
             admin,
-            load,
+            save,
         } = operating;
-        if !loader.load(rt, alloc, self, load) {
-            return Err(Refusal::OutOfMemory);
-        }
         start_to_write(rt, alloc, outlet, unsaid, notes)?;
         let keeper = TraceKeeper::start(rt, alloc, self, trace)?;
         let operator = match admin {
-            Some(admin) => Some(Operator::new(rt, self, admin)),
+            Some(admin) => Some(Operator::new(rt, self, admin, save)),
             None => None,
         };
-        match self.serve_connections(rt, alloc, keeper, signal, &operator, threads) {
+        match self.serve_connections(rt, alloc, keeper, signal, &operator, base, loader, threads) {
             Some(ran) => Ok(ran),
             None => Err(Refusal::OutOfMemory),
         }
     }
 
-    /// Serves connections, with these threads beside those of sessions. There is nothing where a thread or memory was refused, and nothing
-    /// was accepted.
+    /// Loads a base and serves connections, with these threads beside those of sessions. There is nothing where the base is not loaded, or
+    /// a thread or memory was refused, and nothing was accepted.
     fn serve_connections<
         K: Receipts + Send + Drop,
         R: Threads + Wait + Clock + Sync,
         S: EndSignal + Send + Drop,
+        F: BaseFile + Send,
+        B: BaseSource + Drop,
     >(
         &self,
         rt: &R,
         alloc: Global,
         keeper: Option<TraceKeeper<'_, '_, P, L>>,
         signal: S,
-        operator: &Option<Operator<'_, '_, '_, '_, P, L, R>>,
+        operator: &Option<Operator<'_, '_, '_, '_, P, L, R, F>>,
+        mut base: B,
+        mut loader: SessionThread<P, L, K>,
         threads: &mut [SessionThread<P, L, K>],
-    ) -> Option<Ran>
-        requires { 0 < length threads.old }
+    ) -> Option<Ran<P, L, K, B>>
+        requires some { 0 < length threads.old }
+        requires loader { K.receipts loader.outcomes ≡ [] }
+        requires base { B.given base ≡ [] }
+        ensures heard { IfSome result
+            (λ ran. AreHeard 1 (B.given ran.base) (K.receipts ran.loader.outcomes)) }
+        ensures over { IfSome result (λ ran. B.is_over ran.base ≡ true) }
+        ensures count { IfSome result (λ ran. ran.loaded ≡ length (B.given ran.base)) }
     {
         let service = self;
         let ending = &DoneSignal::new();
@@ -130,8 +157,15 @@ impl<'a, P: Pseudo + Send, L: MadeWith<P> + Send + Sync> Service<'a, P, L> {
         thread::scope(
             thread::scope_env(),
             rt,
-            |scope| -> Option<Ran>
-                requires { 0 < count }
+            move |scope| -> Option<Ran<P, L, K, B>>
+                requires some { 0 < count }
+                requires loader { K.receipts loader.outcomes ≡ [] }
+                requires base { B.given base ≡ [] }
+                ensures heard { IfSome result
+                    (λ ran. AreHeard 1 (B.given ran.base) (K.receipts ran.loader.outcomes)) }
+                ensures over { IfSome result (λ ran. B.is_over ran.base ≡ true) }
+                ensures count { IfSome result
+                    (λ ran. ran.loaded ≡ length (B.given ran.base)) }
             {
                 let look = move || supervise(rt, service, ending, signal);
                 let watching = scope.spawn(look).ok();
@@ -155,11 +189,18 @@ impl<'a, P: Pseudo + Send, L: MadeWith<P> + Send + Sync> Service<'a, P, L> {
                 let all_run = watching.is_some()
                     && keeping.is_some() == keeps
                     && answering.is_some() == operator.is_some();
-                let accepting = if all_run {
-                    let accept = move || accept_all(rt, service, to, count);
-                    scope.spawn(accept).ok()
+                let loaded = if all_run {
+                    loader.load(rt, alloc, service, &mut base)
                 } else {
                     None
+                };
+                service.is_loading.store(false, Ordering::SeqCst);
+                let accepting = match loaded {
+                    Some(loaded) => {
+                        let accept = move || accept_all(rt, service, to, count, loaded);
+                        scope.spawn(accept).ok()
+                    }
+                    None => None,
                 };
                 let accepted = match accepting {
                     Some(accepting) => {
@@ -178,20 +219,18 @@ impl<'a, P: Pseudo + Send, L: MadeWith<P> + Send + Sync> Service<'a, P, L> {
                 if let Some(operator) = operator {
                     operator.end();
                 }
-                for answering in [answering, more] {
-                    if let Some(answering) = answering {
-                        answering.join(rt);
-                    }
-                }
+                join(rt, answering);
+                join(rt, more);
                 ending.end(rt);
-                if let Some(watching) = watching {
-                    watching.join(rt);
-                }
+                join(rt, watching);
                 let trace_failure = match keeping {
                     Some(keeping) => keeping.join(rt),
                     None => None,
                 };
                 Some(Ran {
+                    base,
+                    loaded: loaded?,
+                    loader,
                     accepting: accepted?,
                     trace_failure,
                 })

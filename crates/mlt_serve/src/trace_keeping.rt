@@ -275,7 +275,7 @@ impl<'a, 'b, P: Pseudo, L: MadeWith<P>> TraceKeeper<'a, 'b, P, L> {
     }
 
     /// Tells what is new of a block that is late or not, and was so at the look before. Where too much waits no transaction begins from
-    /// now on.
+    /// now on, but those of the base that is loaded.
     fn warn<R: Wait + Clock>(&self, rt: &R, was_late: bool, is_late: bool) {
         let service = self.service;
         let refuses = service.refuses_begins.load(Ordering::SeqCst);
@@ -286,7 +286,8 @@ impl<'a, 'b, P: Pseudo, L: MadeWith<P>> TraceKeeper<'a, 'b, P, L> {
             service.notes.tell(rt, Note::TraceGoesOn);
         }
         let waiting = service.shared.statistics(rt).items as u64;
-        if service.is_endless && !refuses && waiting >= MOST_WAITING_ITEMS {
+        let may_refuse = service.is_endless && !service.is_loading.load(Ordering::SeqCst);
+        if may_refuse && !refuses && waiting >= MOST_WAITING_ITEMS {
             service.refuses_begins.store(true, Ordering::SeqCst);
             service.notes.tell(rt, Note::BeginsRefused(waiting));
         }

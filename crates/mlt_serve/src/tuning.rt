@@ -13,6 +13,16 @@ pub(crate) const LOOKS_FOR_THREADS: u32 = 12;
 /// How many items of a history are copied in one hold of the lock, in a microsecond or two. By `looked`.
 pub(crate) const ITEMS_PER_HOLD: usize = 256;
 
+/// How many buckets are copied for a list of objects in one hold of the lock, in some microseconds. By `looked`.
+pub(crate) const BUCKETS_PER_HOLD: usize = 16;
+
+/// How many microseconds pass at least between two such holds. By `looked`.
+pub(crate) const LIST_PAUSE_MICROSECONDS: u64 = 250;
+
+/// How many such holds there are for one answer, which so takes some 20 milliseconds at most: others wait for the same thread. Nothing
+/// measures it.
+pub(crate) const HOLDS_PER_LIST: u32 = 64;
+
 /// For how many seconds a block of the trace is written until that is told, and until it is given up once the server ends. Nothing
 /// measures it.
 pub(crate) const LATE_SECONDS: u64 = 5;

@@ -2,7 +2,7 @@
 use Rattle.std.specs.Prelude.{◌≡◌, ◌≢◌, ◌<◌, ◌^◌, ◌⊎◌, ℕ, List, ◌++◌, codes, Bool, true, false, if◌then◌else◌, IsTrue, IsFalse, Some}
 use Rattle.mlt_text_words.specs.Numbers.{number_of}
 use Rattle.mlt_serve_admin.specs.declared.resources.Resource.{Resource}
-use Rattle.mlt_serve_admin.specs.declared.resources.Resource.TheVariants.{Page, Status, Metrics, Waits, Sessions, Base, Stop, SessionEnd}
+use Rattle.mlt_serve_admin.specs.declared.resources.Resource.TheVariants.{Page, Status, Metrics, Waits, Sessions, Base, Save, Stop, SessionEnd}
 
 -- the resource stands at this path; a client's number may have zeros before it
 abbrev pub IsAt : List ℕ → Resource → Type 0
@@ -12,6 +12,7 @@ IsAt path Metrics = path ≡ codes "/metrics"
 IsAt path Waits = path ≡ codes "/waits"
 IsAt path Sessions = path ≡ codes "/sessions"
 IsAt path Base = path ≡ codes "/base"
+IsAt path Save = path ≡ codes "/save"
 IsAt path Stop = path ≡ codes "/stop"
 IsAt path (SessionEnd client) =
     (digits : List ℕ)
@@ -27,10 +28,12 @@ pub record IsAtNoFixedPath (path : List ℕ) : Type 0 where
   pub waits : path ≢ codes "/waits"
   pub sessions : path ≢ codes "/sessions"
   pub base : path ≢ codes "/base"
+  pub save : path ≢ codes "/save"
   pub stop : path ≢ codes "/stop"
 
 -- whether to ask for it changes the server
 abbrev pub changes : Resource → Bool
+changes Save = true
 changes Stop = true
 changes (SessionEnd client) = true
 changes _ = false

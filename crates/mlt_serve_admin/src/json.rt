@@ -23,8 +23,8 @@ pub(crate) struct Sessions {
 #[derive(Drop, Serialize)]
 pub(crate) struct Objects {
     pub(crate) objects: Vec<NumberedObject>,
-    /// The number from which the next ones are listed, if there are more.
-    pub(crate) next: Option<u64>,
+    /// The place from which the next ones are listed, if there may be more.
+    pub(crate) next: Option<u16>,
 }
 
 /// An object of a kind.

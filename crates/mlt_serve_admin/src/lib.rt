@@ -1,7 +1,7 @@
 //! What an operator sees of a server, and may do to it, over HTTP: `serve_admin` answers requests
-//! for its state, and requests to end it or to cut a session. It is proved which requests are open,
-//! which status and headers each answer has, and that no answer reports an end or a cut without the
-//! call. The texts and the page are only tested. There is no password: anyone who can reach the
+//! for its state, and requests to end it, to cut a session or to save its base. It is proved which requests are open,
+//! which status and headers each answer has, and that no answer reports an end, a cut or a save
+//! without the call. The texts and the page are only tested. There is no password: anyone who can reach the
 //! address may do everything.
 #![tactic(auto)]
 
@@ -21,6 +21,6 @@ mod view;
 pub use operated::Operated;
 pub use serving::serve_admin;
 pub use view::{
-    Counts, KeyRange, ObjectView, ServerView, SessionView, TimesView, TransactionView, WaitReason,
-    WaitView,
+    Counts, NotSaved, ObjectView, ObjectsView, ServerView, SessionView, TimesView, TransactionView,
+    WaitReason, WaitView, WantedObjects,
 };

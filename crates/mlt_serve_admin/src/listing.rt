@@ -2,22 +2,22 @@
 
 use crate::json::{NumberedObject, Objects};
 use crate::operated::Operated;
-use crate::view::KeyRange;
+use crate::view::{ObjectsView, WantedObjects};
 use mlt_types::{Cell, Key};
 use std::alloc::{AllocError, Global};
 
 /// What is said where a query asks for none.
 pub(crate) const LISTINGS: &str =
-    "Expected /base?kind=account, kind=counter or kind=set&of=SET, and from=NUMBER.\n";
+    "Expected /base?kind=account, kind=counter or kind=set&of=SET, and from=PLACE.\n";
 
-/// How many objects are listed at most.
-const MOST_OBJECTS: usize = 1_000;
+/// From how many objects on a list ends.
+const ENOUGH_OBJECTS: usize = 1_000;
 
-/// What is asked for: the objects of a kind, or the elements of a set, from a number on.
+/// What is asked for: the objects of a kind, or the elements of a set, from a place on.
 #[derive(Clone, Copy)]
 pub(crate) struct Listing {
     kind: ListedKind,
-    from: u32,
+    from: u16,
 }
 
 /// Of which kind they are.
@@ -40,22 +40,54 @@ impl ListedKind {
     }
 }
 
+/// The parameters of a query, each at most once.
+#[derive(Clone, Copy)]
+struct Parameters<'a> {
+    kind: Option<&'a str>,
+    of: Option<&'a str>,
+    from: Option<&'a str>,
+}
+
+impl<'a> Parameters<'a> {
+    /// Those of a query. `None`, where it has others, or one twice.
+    fn read(query: &'a str) -> Option<Parameters<'a>> {
+        let mut parameters = Parameters {
+            kind: None,
+            of: None,
+            from: None,
+        };
+        for field in query.split('&') {
+            let (name, value) = field.split_once('=')?;
+            let parameter = match name.as_bytes() {
+                b"kind" => &mut parameters.kind,
+                b"of" => &mut parameters.of,
+                b"from" => &mut parameters.from,
+                _ => return None,
+            };
+            if parameter.replace(value).is_some() {
+                return None;
+            }
+        }
+        Some(parameters)
+    }
+}
+
 impl Listing {
-    /// What a query asks for: `kind=account`, `kind=counter`, or `kind=set&of=SET`, each with `from=NUMBER` where the list is to
+    /// What a query asks for: `kind=account`, `kind=counter`, or `kind=set&of=SET`, each with `from=PLACE` where the list is to
     /// begin later. `None`, where it is none of these.
     pub(crate) fn read(query: &str) -> Option<Listing> {
-        let kind = match value_of(query, "kind=")?.as_bytes() {
-            b"account" => ListedKind::Accounts,
-            b"counter" => ListedKind::Counters,
-            b"set" => ListedKind::Elements(value_of(query, "of=")?.parse::<u16>().ok()?),
+        let Parameters { kind, of, from } = Parameters::read(query)?;
+        let kind = match (kind?.as_bytes(), of) {
+            (b"account", None) => ListedKind::Accounts,
+            (b"counter", None) => ListedKind::Counters,
+            (b"set", Some(set)) => ListedKind::Elements(set.parse::<u16>().ok()?),
             _ => return None,
         };
-        let from = value_of(query, "from=").unwrap_or("0");
-        let from = from.parse::<u32>().ok()?;
+        let from = from.unwrap_or("0").parse::<u16>().ok()?;
         Some(Listing { kind, from })
     }
 
-    /// The objects.
+    /// The objects, by their numbers.
     ///
     /// # Errors
     /// Where a growth was refused.
@@ -65,26 +97,25 @@ impl Listing {
         operated: &O,
     ) -> Result<Objects, AllocError> {
         let zero = self.kind.key(0);
-        let range = KeyRange {
-            first: self.kind.key(self.from),
+        let wanted = WantedObjects {
+            from: self.from,
+            first: zero,
             last: self.kind.key(u32::MAX),
+            enough: ENOUGH_OBJECTS,
         };
+        let ObjectsView {
+            objects: mut found,
+            next,
+        } = operated.objects(alloc, &wanted)?;
+        found.sort_unstable_by_key(|object| object.key);
         let has_values = !matches!(self.kind, ListedKind::Elements(_));
-        let found = operated.objects(alloc, &range, MOST_OBJECTS + 1)?;
         let mut objects = Vec::new(alloc);
-        for object in found.iter().take(MOST_OBJECTS) {
+        for object in &found {
             objects.push(NumberedObject {
                 number: object.key.saturating_sub(zero),
                 value: has_values.then_some(object.value),
             })?;
         }
-        let next = found.get(MOST_OBJECTS);
-        let next = next.map(|object| object.key.saturating_sub(zero));
         Ok(Objects { objects, next })
     }
-}
-
-// What stands behind this name in a query.
-fn value_of<'a>(query: &'a str, name: &str) -> Option<&'a str> {
-    query.split('&').find_map(|field| field.strip_prefix(name))
 }

@@ -32,7 +32,7 @@ macro_rules! numbers {
 }
 
 // All numbers, in the order in which they are written.
-pub(crate) fn numbers(counts: &Counts) -> [Number; 26] {
+pub(crate) fn numbers(counts: &Counts) -> [Number; 29] {
     numbers! {
         server server gauge "A number that the server drew at random when it started." counts.server;
         seconds uptime_seconds gauge "Seconds since the server began to listen." counts.seconds;
@@ -40,6 +40,7 @@ pub(crate) fn numbers(counts: &Counts) -> [Number; 26] {
         session_threads session_threads gauge "Threads that serve sessions." counts.session_threads;
         queued queued_connections gauge "Connections that were accepted and are not served yet." counts.queued;
         connections connections_total counter "Connections that were accepted." counts.connections;
+        refused refused_connections_total counter "Clients that were refused since all sessions were taken." counts.refused;
         limit connection_limit gauge "Connections that the server accepts at most." counts.limit;
         open open_transactions gauge "Transactions that are open." counts.open;
         begun transactions_begun_total counter "Transactions that were begun." counts.begun;
@@ -59,6 +60,8 @@ pub(crate) fn numbers(counts: &Counts) -> [Number; 26] {
         room room gauge "Objects that there can be at most, if their pseudokeys spread evenly." counts.room;
         trace trace gauge "1 if there is a trace, else 0." u64::from(counts.has_trace);
         trace_failed trace_failed gauge "1 if the trace could not be written, else 0." u64::from(counts.trace_failed);
+        saves saves gauge "1 if the server can save its base, else 0." u64::from(counts.can_save);
+        loading loading gauge "1 if the server is loading its data, else 0." u64::from(counts.is_loading);
         stopping stopping gauge "1 if the server is shutting down, else 0." u64::from(counts.is_stopping);
     }
 }

@@ -22,6 +22,8 @@ header{display:flex;flex-wrap:wrap;gap:.5rem 1rem;align-items:center}
 h1{font-size:1.15rem;margin:0}
 h2{font-size:1rem;margin:1.4rem 0 .5rem}
 #state{flex:1;color:var(--dim)}
+#saved{color:var(--dim)}
+#save{color:inherit}
 #state.gone{color:var(--stop);font-weight:600}
 button{font:inherit;padding:.3rem .7rem;color:var(--stop);background:none;border:1px solid;border-radius:.4rem;cursor:pointer}
 button:disabled{opacity:.4;cursor:default}
@@ -61,6 +63,8 @@ svg marker path{fill:var(--wait);stroke:none}
 <header>
 <h1 id="name">mltx</h1>
 <span id="state" role="status">…</span>
+<span id="saved" role="status"></span>
+<button id="save" hidden>Save the base</button>
 <button id="stop">Stop the server</button>
 </header>
 <main>
@@ -155,6 +159,7 @@ function showCounts(now) {
     "Sessions": of(now.sessions, now.session_threads),
     "Queued": count(now.queued),
     "Connections": of(now.connections, now.limit),
+    "Refused": count(now.refused),
     "Open transactions": count(now.open),
     "Transactions begun": of(now.begun, now.most_begun),
     "Committed": count(now.commits),
@@ -183,6 +188,7 @@ function showCounts(now) {
     put(at(name), rows[name]);
   }
   at("stop").disabled = now.stopping === 1;
+  at("save").hidden = !now.saves;
   put(at("state"), (now.stopping ? "shutting down, after " : "up for ") + time(now.seconds * 1000));
 }
 
@@ -282,6 +288,16 @@ async function act(question, path) {
   } catch { alert("The server does not respond."); }
 }
 
+async function save() {
+  at("save").disabled = true;
+  put(at("saved"), "saving …");
+  try {
+    const answer = await fetch("/save", {method: "POST", headers: {"X-Mltx": "1"}});
+    put(at("saved"), answer.ok ? "saved after " + count((await answer.json()).commits) + " commits" : await answer.text());
+  } catch { put(at("saved"), "The server does not respond."); }
+  at("save").disabled = false;
+}
+
 async function look() {
   try {
     const answers = await Promise.all(["/status", "/sessions", "/waits"].map(async path => {
@@ -302,6 +318,7 @@ async function look() {
   setTimeout(look, 500);
 }
 
+at("save").onclick = save;
 at("stop").onclick = () => act("Stop the server? This ends all sessions.", "/stop");
 look();
 </script>

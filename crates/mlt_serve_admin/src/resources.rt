@@ -20,8 +20,10 @@ pub(crate) enum Resource {
     Waits,
     /// The sessions that are served.
     Sessions,
-    /// The objects, page by page.
+    /// The objects, some at a time.
     Base,
+    /// The saving of the base.
+    Save,
     /// The end of the server.
     Stop,
     /// The end of the session of this client.
@@ -51,7 +53,10 @@ impl Resource {
     pub(crate) fn changes(self) -> bool
         ensures { result ≡ changes self }
     {
-        matches!(self, Resource::Stop | Resource::SessionEnd(_))
+        matches!(
+            self,
+            Resource::Save | Resource::Stop | Resource::SessionEnd(_),
+        )
     }
 }
 
@@ -79,6 +84,7 @@ fn fixed_resource(path: &str) -> Option<Resource>
         _ if path == "/waits" => Some(Resource::Waits),
         _ if path == "/sessions" => Some(Resource::Sessions),
         _ if path == "/base" => Some(Resource::Base),
+        _ if path == "/save" => Some(Resource::Save),
         _ if path == "/stop" => Some(Resource::Stop),
         _ => None,
     }

@@ -5,7 +5,7 @@ ghost use Rattle.http.specs.Request.{head_of};
 ghost use Rattle.http_server.specs.Response.{IsBlank};
 ghost use Rattle.mlt_serve_admin.specs.declared.replies.Content.TheVariants as content;
 ghost use Rattle.mlt_serve_admin.specs.Replies.{IsReply};
-ghost use Rattle.mlt_serve_admin.specs.Answers.{IsAnswerAt, IsAnswerBy, IsMarked, IsRefusedMethod, IsRouteFor};
+ghost use Rattle.mlt_serve_admin.specs.Answers.{IsAnswerAt, IsAnswerBy, IsMarked, IsRefusedMethod, IsRouteFor, IsSaveAnswer, doings_of};
 ghost use Rattle.mlt_serve_admin.specs.Resources.{methods_of};
 
 use crate::hosts::is_direct;
@@ -17,7 +17,7 @@ use crate::page::PAGE;
 use crate::replies::{Content, fill, refuse};
 use crate::resources::Resource;
 use crate::routes::{Route, route_of};
-use crate::view::ServerView;
+use crate::view::{NotSaved, ServerView};
 use bytes::Bytes;
 use http::header::ALLOW;
 use http::{HeaderValue, Request, StatusCode};
@@ -33,10 +33,10 @@ pub(crate) struct OperatorService<'a, O> {
 }
 
 impl<O: Operated> Service for OperatorService<'_, O> {
-    ghost use Rattle.mlt_serve_admin.specs.Answers.{IsAnswer};
+    ghost use Rattle.mlt_serve_admin.specs.Answers.{IsAnswer, doings_of};
 
     ghost answers = { λ old request response new.
-        IsAnswer (O.is_stopped old.operated.now) (O.is_cut old.operated.now) request response };
+        IsAnswer (doings_of O.is_stopped O.is_cut O.is_saved old.operated.now) request response };
 
     fn call(
         &mut self,
@@ -59,8 +59,8 @@ impl<O: Operated> OperatorService<'_, O> {
         response: &mut Response,
     ) -> Result<(), AllocError>
         requires { IsBlank response.old }
-        ensures { OnOk result (IsAnswerBy (O.is_stopped self.now.operated.now)
-            (O.is_cut self.now.operated.now) route response.new) }
+        ensures { OnOk result (IsAnswerBy
+            (doings_of O.is_stopped O.is_cut O.is_saved self.now.operated.now) route response.new) }
     {
         match route {
             Route::Open(resource) => self.answer_at(resource, query, response),
@@ -85,8 +85,8 @@ impl<O: Operated> OperatorService<'_, O> {
         response: &mut Response,
     ) -> Result<(), AllocError>
         requires { IsBlank response.old }
-        ensures { OnOk result (IsAnswerAt (O.is_stopped self.now.operated.now)
-            (O.is_cut self.now.operated.now) resource response.new) }
+        ensures { OnOk result (IsAnswerAt
+            (doings_of O.is_stopped O.is_cut O.is_saved self.now.operated.now) resource response.new) }
     {
         match resource {
             Resource::Page => fill(response, StatusCode::OK, Content::Page, PAGE),
@@ -114,6 +114,7 @@ impl<O: Operated> OperatorService<'_, O> {
                 let objects = listing.objects(self.alloc, self.operated)?;
                 self.show(&objects, response)
             }
+            Resource::Save => self.save(response),
             Resource::Stop => {
                 self.operated.stop();
                 let text = "{\"stopping\":true}\n";
@@ -133,6 +134,36 @@ impl<O: Operated> OperatorService<'_, O> {
         };
         text.push('\n')?;
         fill(response, StatusCode::OK, Content::Json, text.as_str())
+    }
+
+    // Saves the base.
+    fn save(&self, response: &mut Response) -> Result<(), AllocError>
+        requires { IsBlank response.old }
+        ensures { OnOk result (IsSaveAnswer (O.is_saved self.now.operated.now) response.new) }
+    {
+        match self.operated.save() {
+            Ok(commits) => {
+                let text = format!(in self.alloc; "{{\"saved\":true,\"commits\":{commits}}}\n")?;
+                fill(response, StatusCode::OK, Content::Json, text.as_str())
+            }
+            Err(NotSaved::NoFile) => {
+                let why =
+                    "The server has no file for its base: it was started without --data or --save.\n";
+                refuse(response, StatusCode::NOT_FOUND, why)
+            }
+            Err(NotSaved::Loading) => {
+                let why = "The base is still being loaded.\n";
+                refuse(response, StatusCode::SERVICE_UNAVAILABLE, why)
+            }
+            Err(NotSaved::Busy) => {
+                let why = "The base is being saved already.\n";
+                refuse(response, StatusCode::SERVICE_UNAVAILABLE, why)
+            }
+            Err(NotSaved::Failed(error)) => {
+                let why = format!(in self.alloc; "The base was not saved: {error}.\n")?;
+                refuse(response, StatusCode::INTERNAL_SERVER_ERROR, why.as_str())
+            }
+        }
     }
 
     // Cuts the session of this client.

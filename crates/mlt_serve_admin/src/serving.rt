@@ -39,7 +39,8 @@ const RESERVE: usize = 65_536;
 /// After each accept it looks whether that is so, and then returns. An accept waits for a tenth of a second at most. After one that
 /// failed otherwise it pauses, and goes on.
 ///
-/// A connection is closed whose request has not come whole within a second, or that is not done after five. Meanwhile others are
+/// A connection is closed whose request has not come whole within a second, or that is not done after five, the time aside in which its
+/// thread made answers, as while it saved a base. Meanwhile others are
 /// answered: there are 32 places, and one more takes that of the oldest, so that slow clients keep out nobody. A connection that is
 /// refused memory is closed too; while there is none some memory is kept for the next. Threads may share a listener.
 ///
@@ -122,10 +123,17 @@ impl Visits {
         }
     }
 
-    /// Goes on with each, and closes those that are done.
+    /// Goes on with each, and closes those that are done or late. The time that this takes, as while an answer is made, is not theirs.
     fn go_on<C: Clock, O: Operated>(&mut self, clock: &C, service: &mut OperatorService<'_, O>) {
-        self.visits
-            .retain_mut(|visit| visit.goes_on(clock, service));
+        let Ok(now) = Instant::now(clock) else {
+            self.visits.clear();
+            return;
+        };
+        self.visits.retain_mut(|visit| visit.goes_on(now, service));
+        let taken = now.elapsed(clock).unwrap_or(Duration::ZERO);
+        for visit in &mut self.visits {
+            visit.forgive(taken);
+        }
     }
 }
 
@@ -162,15 +170,11 @@ impl Visit {
         Ok(visit)
     }
 
-    /// Reads, answers and writes what it can without a wait. Returns whether something is left to do, and time for it.
-    fn goes_on<C: Clock, O: Operated>(
-        &mut self,
-        clock: &C,
-        service: &mut OperatorService<'_, O>,
-    ) -> bool {
+    /// Reads, answers and writes what it can without a wait. Returns whether something is left to do, and there was time for it.
+    fn goes_on<O: Operated>(&mut self, now: Instant, service: &mut OperatorService<'_, O>) -> bool {
         for _ in 0..u64::MAX {
             self.connection.advance(service);
-            if self.connection.is_done() || self.is_late(clock) {
+            if self.connection.is_done() || self.is_late(now) {
                 return false;
             }
             match self.transfer() {
@@ -183,16 +187,18 @@ impl Visit {
         false
     }
 
-    fn is_late<C: Clock>(&self, clock: &C) -> bool {
+    fn is_late(&self, now: Instant) -> bool {
         let longest = if self.connection.wants_write() {
             LONGEST
         } else {
             LONGEST_REQUEST
         };
-        match self.since.elapsed(clock) {
-            Ok(elapsed) => elapsed >= Duration::from_secs(longest),
-            Err(_) => true,
-        }
+        now.saturating_duration_since(self.since) >= Duration::from_secs(longest)
+    }
+
+    // So much time counts for nothing.
+    fn forgive(&mut self, time: Duration) {
+        self.since = self.since.checked_add(time).unwrap_or(self.since);
     }
 
     // Writes once, if there is something to write, or else reads once.

@@ -4,6 +4,7 @@ use crate::json::{all_done, number, text_or_null};
 use mlt_object_kinds::{Done, ObjOp};
 use mlt_types::TxId;
 use serde::Serialize;
+use std::io;
 use std::net::SocketAddr;
 
 /// What a server is at one moment.
@@ -28,13 +29,26 @@ pub struct TimesView {
     pub microseconds: u64,
 }
 
-/// Which objects are to be listed, by the numbers of their keys.
+/// Which objects are to be listed.
 #[derive(Clone, Copy)]
-pub struct KeyRange {
-    /// The first.
+pub struct WantedObjects {
+    /// The place from which they are listed.
+    pub from: u16,
+    /// The number of the first key.
     pub first: u64,
-    /// The last.
+    /// The number of the last key.
     pub last: u64,
+    /// From how many on no more are looked for.
+    pub enough: usize,
+}
+
+/// Objects that are listed.
+#[derive(Drop)]
+pub struct ObjectsView {
+    /// These.
+    pub objects: Vec<ObjectView>,
+    /// The place from which the next ones are listed, if there may be more.
+    pub next: Option<u16>,
 }
 
 /// The record of an object.
@@ -65,6 +79,8 @@ pub struct Counts {
     pub queued: u64,
     /// How many connections were accepted.
     pub connections: u64,
+    /// How many clients were refused, which are not among these, since all sessions were taken.
+    pub refused: u64,
     /// How many connections are accepted in all.
     pub limit: u64,
     /// How many transactions are open.
@@ -103,12 +119,29 @@ pub struct Counts {
     pub has_trace: bool,
     /// Whether the trace could not be written.
     pub trace_failed: bool,
+    /// Whether the server has a file to save its base in.
+    pub can_save: bool,
+    /// Whether the server still loads its base.
+    pub is_loading: bool,
     /// Whether the server was told to end.
     pub is_stopping: bool,
     /// How long transactions took.
     pub transaction_times: TimesView,
     /// How long operations waited.
     pub wait_times: TimesView,
+}
+
+/// Why a base was not saved.
+#[derive(Clone, Copy, Drop)]
+pub enum NotSaved {
+    /// The server has no file for it.
+    NoFile,
+    /// It is not loaded yet.
+    Loading,
+    /// It is being saved already.
+    Busy,
+    /// It can't be made or written. The file is as before.
+    Failed(io::Error),
 }
 
 /// A session that is served.

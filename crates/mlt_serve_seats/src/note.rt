@@ -94,6 +94,9 @@ pub enum Note {
     /// All numbers of transactions are used, so a begin was refused, the first one.
     #[error("all transaction numbers are used, no transaction begins (IdsSpent)")]
     NoNumber,
+    /// A client was refused since all sessions were taken, the first one.
+    #[error("the first client was refused, all sessions are taken (TooManyOpen)")]
+    NoSession,
     /// The operator's address is not loopback.
     #[error("the admin address {0} is not loopback")]
     OpenAdmin(SocketAddr),

@@ -3,13 +3,13 @@
 use crate::outcomes::{Row, same_outcomes};
 use mlt_object_kinds::{AccountOp, ObjOp, ObjReply};
 use mlt_script_serial::{End, Outcomes};
-use mlt_serve::{NoSignal, Operating, ServeOptions, TraceFile, serve_on};
+use mlt_serve::{NoBase, NoBaseFile, NoSignal, Operating, ServeOptions, TraceFile, serve_on};
 use mlt_test_tools::same_at;
 use mlt_types::{Limits, Mult, Refusal};
 use std::alloc::Global;
 use std::io::{Read, Write};
 use std::net::{TcpListener, TcpStream};
-use std::sync::Wait;
+use std::sync::{Mutex, Wait};
 use std::test::Fail;
 use std::thread::Threads;
 use std::time::Clock;
@@ -57,9 +57,9 @@ fn serve_two<R: Threads + Wait + Clock + Sync + Send + Copy + 'static>(
         trace: None::<NoFile>,
         signal: NoSignal,
         admin: None,
-        load: None,
+        save: None::<&Mutex<NoBaseFile>>,
     };
-    let served = serve_on(rt, alloc, listener, Mult, &options, operating)?;
+    let served = serve_on(rt, alloc, listener, Mult, &options, operating, NoBase)?;
     served.manager.close();
     Ok(served.outcomes)
 }

@@ -1,6 +1,7 @@
-use Rattle.std.proofs.Common.{rules, ◌∙◌, subst, sym, IfSome}
+use Rattle.std.proofs.Common.{◌∙◌, subst, sym}
 use Rattle.mlt_manager.specs.Managers.{ManagerFields}
-use Rattle.mlt_serve.{specs.Desks.AreGiven, specs.Loads.IsHeard, specs.Tellings.HaveBegun, proofs.Loading.among}
+use Rattle.mlt_serve.specs.{Desks.AreGiven, Tellings.HaveBegun}
+use Rattle.mlt_serve.proofs.Loading.{among}
 use Rattle.mlt_serve.proofs.Names.{TellsOutcomes}
 use Rattle.mlt_serve.proofs.serving.serve_with.Goals as goal
 
@@ -15,9 +16,7 @@ returns-in-Ok-clause-begun g c =
     λ have. subst (λ (m : ManagerFields _). HaveBegun m.shared.history.items outcomes) (sym (c.close-manager.ensures.same ∙ c.gather-gathered.ensures.manager)) (c.gather-gathered.ensures.begun have)
 
 pub returns-in-Ok-clause-loaded : goal.returns-in-Ok-clause-loaded
-returns-in-Ok-clause-loaded g c = λ have.
-    let loaded : IfSome c.args.operating.load (λ base. IsHeard 1 base.lines.now base.answers.now (g.K.Receipts.receipts c.run-ran.new.loader.outcomes)) = search rules in
-    among c.args.operating.load _ _ _ loaded (c.gather-gathered.ensures.outcomes have)
+returns-in-Ok-clause-loaded g c = λ have. among _ _ _ _ c.in-Ok.ensures.heard (c.gather-gathered.ensures.outcomes have)
 
 pub returns-in-Ok-clause-given : goal.returns-in-Ok-clause-given
 returns-in-Ok-clause-given g c = λ have.

@@ -1,6 +1,6 @@
 use Rattle.std.proofs.Common.{ℕ, List, Option, Some, None, IfNone}
 use Rattle.mlt_serve_admin.specs.{declared.resources.Resource.Resource, Resources.IsAt, Resources.IsAtNoFixedPath}
-use Rattle.mlt_serve_admin.specs.declared.resources.Resource.TheVariants.{Page, Status, Metrics, Waits, Sessions, Base, Stop, SessionEnd}
+use Rattle.mlt_serve_admin.specs.declared.resources.Resource.TheVariants.{Page, Status, Metrics, Waits, Sessions, Base, Save, Stop, SessionEnd}
 use Rattle.mlt_serve_admin.proofs.resources.resource_at.Goals as goal
 
 -- a path that is none of the fixed ones, and no end of a session, is that of no resource
@@ -13,6 +13,7 @@ is_at_none path fixed ends Metrics = fixed.metrics
 is_at_none path fixed ends Waits = fixed.waits
 is_at_none path fixed ends Sessions = fixed.sessions
 is_at_none path fixed ends Base = fixed.base
+is_at_none path fixed ends Save = fixed.save
 is_at_none path fixed ends Stop = fixed.stop
 is_at_none path fixed ends (SessionEnd client) = ends client
 

@@ -1,4 +1,4 @@
-use Rattle.std.proofs.Common.{◌≡◌, ◌∙◌, ap, subst, ℕ, List}
+use Rattle.std.proofs.Common.{◌∙◌, ap, subst, ℕ, List}
 use Rattle.http.specs.{Request.head_of, Uri.uri_path}
 use Rattle.mlt_serve_admin.specs.Routes.{IsRouteOf}
 use Rattle.mlt_serve_admin.proofs.service.route_for.Goals as goal

@@ -1,20 +1,23 @@
-use Rattle.std.proofs.Common.{rules, ◌≡◌, [], IfSome, Option, Some, length, subst, sym}
-use Rattle.mlt_serve.{specs.Loads.Heard, specs.Loads.IsHeard, specs.Loads.ends, specs.declared.operating.Load.Load, proofs.Loading.all_heard, proofs.session_thread.SessionThread.load.Goals.then-is_empty, proofs.session_thread.SessionThread.load.Goals.else-is_empty}
+use Rattle.std.proofs.Common.{rules, ◌≡◌, ◌+◌, ◌++◌, ◌∷◌, [], List, ap, arith, length, subst, sym, true}
+use Rattle.std.proofs.lemmas.List.{length-append}
+use Rattle.mlt_serve.specs.{Loads.AreHeard, declared.operating.Piece.Piece}
+use Rattle.mlt_serve.proofs.Loading.{one_more_heard}
 use Rattle.mlt_serve.proofs.session_thread.SessionThread.load.Goals as goal
 
-pub returns : goal.returns
-returns g c =
-    let load = c.in-Some.load in
-    let before = g.K.Receipts.receipts c.args.self.now.outcomes in
-    let after = g.K.Receipts.receipts c.serve-ended.new.self.outcomes in
-    let rest = c.serve-ended.new.reader.now in
-    let text = c.serve-ended.new.writer.items in
-    let heard : Heard 1 (ends (Some load.lines.now) (Some [])) (ends (Some rest) (Some text)) before after = search rules in
-    elim c.if-is_empty.branch [
-      | then-is_empty w ↦ λ told.
-          let empty : length rest ≡ 0 = search rules in
-          let same : text ≡ load.answers.now = search rules in
-          subst (λ (l : Option Load). IfSome l (λ base. IsHeard 1 base.lines.now base.answers.now after)) (sym c.in-Some.is)
-          (all_heard load.lines.now load.answers.now text rest before after heard c.requires empty same)
-      | else-is_empty w ↦ search rules
-    ]
+pub loop-preserved : goal.loop-preserved
+loop-preserved g c =
+    let l = c.loop in
+    let piece = c.in-Ok-Some.piece in
+    let pieces = g.B.BaseSource.given l.base in
+    let client = c.in-Some-checked_add.client in
+    let more : g.B.BaseSource.given c.next-in-loop.new.self ≡ pieces ++ piece ∷ [] = search rules in
+    let next : client ≡ 1 + length pieces = search rules in
+    let told : c.hear.result ≡ true = search rules in
+    let heard = c.hear.ensures told in
+    let all = one_more_heard 1 client pieces piece (g.K.Receipts.receipts l.self.outcomes) heard.0 l.invariant.heard next heard.1 in
+    let long = ap length more in
+    let grown = length-append pieces (piece ∷ []) in
+    record {
+      heard = subst (λ (ps : List Piece). AreHeard 1 ps (g.K.Receipts.receipts c.hear.new.self.outcomes)) (sym more) (subst (AreHeard 1 (pieces ++ piece ∷ [])) (sym heard.2) all);
+      count = omega (arith, next, long, grown);
+    }
