@@ -94,12 +94,13 @@ error. For port 0 this line has the port that the system chose.
 If a connection ends, its open transaction is rolled back. The trace is written continuously.
 When the server exits, it prints `served` and the number of connections.
 
-To keep a server running until you stop it:
-  mltx serve 127.0.0.1:7000 --endless --sessions 64 --idle 600 --admin 127.0.0.1:7001
+To keep a server running until you stop it, and its data, also after a crash:
+  mltx serve 127.0.0.1:7000 --endless --sessions 64 --idle 600 --data data --admin 127.0.0.1:7001
 
 Stop it by the button at http://127.0.0.1:7001, or by
   curl -X POST -H 'X-Mltx: 1' http://127.0.0.1:7001/stop
-SIGTERM and Ctrl-C end it at once, without --save, unless the `./mltx` of the source tree started it.";
+SIGTERM, SIGHUP and Ctrl-C stop it too where they are blocked, as `./mltx` and an installed `mltx`
+start it; else they end it at once, and save nothing. A second Ctrl-C ends it at once.";
 
 const TABLES_EXAMPLE: &str = "Example: mltx tables counter
 
@@ -168,7 +169,7 @@ const ECHO: Row = Row::Flag("echo", "Print each line of FILE, and its answer bes
 const LOAD: Row = Row::Text(
     "load",
     "FILE",
-    "Begin with the accounts, elements and counters of FILE, which are lines as `run` prints them",
+    "Begin with the accounts, elements and counters of FILE, as `run` prints them, or of a trace",
 );
 
 const TRIES: Row = Row::Number(
@@ -230,7 +231,12 @@ const SERVE_ROWS: &[Row] = &[
     Row::Text(
         "save",
         "FILE",
-        "When the server exits, write its accounts, elements and counters to FILE, for --load",
+        "When the server stops, save its accounts, elements and counters in FILE, for --load",
+    ),
+    Row::Text(
+        "data",
+        "FOLDER",
+        "Keep them and the trace in FOLDER, and begin with what is there, also after a crash",
     ),
     Row::Heading("Connections"),
     Row::Flag(

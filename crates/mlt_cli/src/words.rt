@@ -119,6 +119,9 @@ pub struct OperatorOptions {
     pub until_eof: bool,
     /// The file for the base at the end as it stands on the command line, if there is one.
     pub save: Option<String>,
+    /// The folder of all data as it stands on the command line, if there is one. There is then no file for the trace, nor for the base
+    /// at the start or at the end.
+    pub data: Option<String>,
 }
 
 /// What the program is asked to do.
@@ -155,6 +158,8 @@ enum NoJob {
     Word,
     // Connections are to be without end, and limited too.
     EndlessAndLimited,
+    // There is to be a folder of all data, and one of its files elsewhere.
+    DataElsewhere,
 }
 
 impl From<AllocError> for NoJob {
@@ -172,6 +177,10 @@ impl NoJob {
             NoJob::EndlessAndLimited => command.error(
                 ErrorKind::ArgumentConflict,
                 "the argument '--endless' cannot be used with '--limit <N>'",
+            ),
+            NoJob::DataElsewhere => command.error(
+                ErrorKind::ArgumentConflict,
+                "the argument '--data <FOLDER>' cannot be used with '--load', '--save' or '--trace'",
             ),
         }
     }
@@ -313,10 +322,16 @@ fn times_found(found: &ArgMatches<'_>) -> Result<Times, NoJob>
 }
 
 fn operating_found(alloc: Global, found: &ArgMatches<'_>) -> Result<OperatorOptions, NoJob> {
+    let data = text_found(alloc, found, "data")?;
+    let files = ["load", "save", "trace"];
+    if data.is_some() && files.iter().any(|file| found.get_str(file).is_some()) {
+        return Err(NoJob::DataElsewhere);
+    }
     Ok(OperatorOptions {
         admin: text_found(alloc, found, "admin")?,
         until_eof: found.get_flag("until-eof"),
         save: text_found(alloc, found, "save")?,
+        data,
     })
 }
 

@@ -1,5 +1,5 @@
 -- What the options of a server are made of.
-use Rattle.std.specs.Prelude.{◌≡◌, ◌<◌, ◌+◌, ◌-◌, ◌*◌, ◌^◌, ℕ, Bool, true, false, Option, None, Some}
+use Rattle.std.specs.Prelude.{◌≡◌, ◌<◌, ◌-◌, ◌*◌, ◌^◌, ℕ, Option, None, Some}
 use Rattle.std.specs.{Duration.as_nanos, declared.time.Duration.Duration}
 use Rattle.mlt_types.specs.declared.limits.Limits.{Limits}
 use Rattle.mlt_cli.specs.declared.words.Connections.{Connections}
@@ -18,15 +18,7 @@ pub record HasNumbers (limits : Limits) (count : ℕ) : Type 0 where
   pub depth : limits.max_depth ≡ 16
   pub ops : limits.max_ops ≡ 1024
 
--- how many connections load a base
-abbrev pub loading : Bool → ℕ
-loading true = 1
-loading false = 0
-
--- A server of so many connections has 2 ^ 32 numbers of transactions; one without an end has the most of both. To load a base is a
--- connection too.
-abbrev pub AreLimitsOf : Connections → Bool → Limits → ℕ → Type 0
-AreLimitsOf (Connections.Limit limit) loads limits connections =
-    HasNumbers limits (2 ^ 32) × (connections ≡ limit + loading loads)
-AreLimitsOf Connections.Endless loads limits connections =
-    HasNumbers limits (2 ^ 63 - 1) × (connections ≡ 2 ^ 63 - 1 + loading loads)
+-- A server of so many connections has 2 ^ 32 numbers of transactions; one without an end has the most of both.
+abbrev pub AreLimitsOf : Connections → Limits → ℕ → Type 0
+AreLimitsOf (Connections.Limit limit) limits connections = HasNumbers limits (2 ^ 32) × (connections ≡ limit)
+AreLimitsOf Connections.Endless limits connections = HasNumbers limits (2 ^ 63 - 1) × (connections ≡ 2 ^ 63 - 1)

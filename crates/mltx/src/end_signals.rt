@@ -13,8 +13,8 @@ use std::sync::{Arc, Wait};
 use std::thread;
 use std::thread::Threads;
 
-// SIGINT and SIGTERM, as a mask of signals has them.
-const ASK_TO_END: u64 = 1 << 1 | 1 << 14;
+// SIGHUP, SIGINT and SIGTERM, as a mask of signals has them.
+const ASK_TO_END: u64 = 1 << 0 | 1 << 1 | 1 << 14;
 
 // For how many milliseconds input is waited for, again and again.
 const LOOK_MILLISECONDS: i32 = 1_000;
@@ -51,16 +51,27 @@ impl EndSignals {
         })
     }
 
+    /// Whether each signal that asks for the end stays pending, or is ignored. One that does neither ends the process.
+    pub(crate) fn are_held(&self) -> bool {
+        let (blocked, ignored) = self.masks(b"SigBlk:\t");
+        (blocked | ignored) & ASK_TO_END == ASK_TO_END
+    }
+
     // Whether a signal that asks for the end is pending, and is not ignored.
     fn is_signalled(&self) -> bool {
+        let (pending, ignored) = self.masks(b"ShdPnd:\t");
+        pending & !ignored & ASK_TO_END != 0
+    }
+
+    // The mask of this process behind this name, and that of the signals which it ignores.
+    fn masks(&self, name: &[u8]) -> (u64, u64) {
         let Some(file) = &self.status else {
-            return false;
+            return (0, 0);
         };
         let mut buffer = [0; 4096];
         let count = file.read_at(&mut buffer, 0).unwrap_or(0);
         let status = buffer.get(..count).unwrap_or(&[]);
-        let pending = mask_of(status, b"ShdPnd:\t");
-        pending & !mask_of(status, b"SigIgn:\t") & ASK_TO_END != 0
+        (mask_of(status, name), mask_of(status, b"SigIgn:\t"))
     }
 }
 

@@ -4,7 +4,7 @@ use crate::input::Input;
 use mlt_cli::{Job, Run};
 use mlt_script_texts::{Detail, TextFault, report_verbose};
 use mlt_text::MAX_INPUT;
-use mlt_types::{Refusal, ScriptCause};
+use mlt_types::Refusal;
 use std::alloc::AllocError;
 use std::io;
 use std::io::ErrorKind;
@@ -21,12 +21,18 @@ pub(crate) struct Failure {
 pub(crate) enum Known {
     /// Nothing more.
     Nothing,
+    /// That this is refused.
+    Refused(Subject),
     /// What the system says of a file or an address.
     Said(Subject, io::Error),
+    /// Why the base was not saved, and the name of a file that has it, if one does.
+    Unsaved(io::Error, Option<String>),
     /// The input has more bytes than one may have.
     LongInput,
-    /// This line of the base to begin with was not loaded.
+    /// This line of the base to begin with was not made.
     BaseLine(u64),
+    /// The text of the line of the base that the refusal names.
+    FaultyBase(Vec<u8>),
     /// The input's text, in which the refusal names a line.
     Text(Vec<u8>),
 }
@@ -46,6 +52,8 @@ pub(crate) enum Subject {
     Load,
     /// The file for the base at the end.
     Save,
+    /// The folder of all data.
+    Data,
 }
 
 impl Failure {
@@ -55,6 +63,22 @@ impl Failure {
             refusal: Refusal::Io,
             known: Known::Said(subject, error),
         }
+    }
+
+    /// A save that failed, where a file of this name has the base, if it has one.
+    pub(crate) fn of_save(error: io::Error, left: Option<String>) -> Failure {
+        Failure {
+            refusal: match error.kind() {
+                ErrorKind::OutOfMemory => Refusal::OutOfMemory,
+                _ => Refusal::Io,
+            },
+            known: Known::Unsaved(error, left),
+        }
+    }
+
+    /// Whether the second line is written in any case: it tells what was lost, or where it is.
+    pub(crate) fn is_always_explained(&self) -> bool {
+        matches!(self.known, Known::Unsaved(..))
     }
 
     /// A refusal of one that reads or writes this, where `failed` is why the last such call that failed did.
@@ -72,7 +96,6 @@ impl Failure {
     /// A run of this input that was refused, where `written` is what the system said of standard output. The input was read
     /// before anything was written, but for one of any length.
     pub(crate) fn of_run(refusal: Refusal, input: Input, written: Option<io::Error>) -> Failure {
-        let refusal = input.placed(refusal);
         let known = match (refusal, input.failure(), written) {
             (Refusal::ScriptFault { .. } | Refusal::TraceFault { .. }, _, _) => match input.text() {
                 Some(text) => Known::Text(text),
@@ -117,33 +140,56 @@ pub(crate) fn explain(
     let refusal = failure.refusal;
     let (subject, words) = match &failure.known {
         Known::Nothing => (Subject::Input, format!(in alloc; "{refusal}")?),
+        Known::Refused(subject) => (*subject, format!(in alloc; "{refusal}")?),
         Known::Said(subject, error) => {
             let expected = expected_of(job, *subject, *error);
             (*subject, format!(in alloc; "{error}{expected}")?)
+        }
+        Known::Unsaved(error, left) => {
+            let words = match left {
+                Some(name) => format!(in alloc; "{error}; what was to be saved is in {name}")?,
+                None => format!(in alloc; "{error}; the file is as it was")?,
+            };
+            (Subject::Save, words)
         }
         Known::LongInput => (
             Subject::Input,
             format!(in alloc; "more than {MAX_INPUT} bytes")?,
         ),
         Known::BaseLine(line) => {
-            let words = base_words(refusal);
-            (Subject::Load, format!(in alloc; "line {line}: {words}")?)
+            let name = name_of(job, Subject::Load);
+            let subject = format!(in alloc; "{name}, line {line}")?;
+            let detail = Detail::Said(match refusal {
+                Refusal::NoRoom => "there is no room for this object",
+                _ => "memory ran out",
+            });
+            return report_verbose(alloc, subject.as_str(), &detail, &mut rt.stderr());
+        }
+        Known::FaultyBase(text) => {
+            return explain_text(rt, job, Subject::Load, refusal, text.as_slice(), points);
         }
         Known::Text(text) => {
-            let Some((fault, line)) = fault_of(job, refusal) else {
-                return Ok(());
-            };
-            let detail = Detail::Faulty(fault, line, text.as_slice(), points);
-            return report_verbose(
-                alloc,
-                name_of(job, Subject::Input),
-                &detail,
-                &mut rt.stderr(),
-            );
+            return explain_text(rt, job, Subject::Input, refusal, text.as_slice(), points);
         }
     };
     let detail = Detail::Said(words.as_str());
     report_verbose(alloc, name_of(job, subject), &detail, &mut rt.stderr())
+}
+
+// The second line of a fault in a text that was read from this.
+fn explain_text(
+    rt: &HostRuntime,
+    job: &Job,
+    subject: Subject,
+    refusal: Refusal,
+    text: &[u8],
+    points: bool,
+) -> Result<(), Refusal> {
+    let Some((fault, line)) = fault_of(job, subject, refusal) else {
+        return Ok(());
+    };
+    let detail = Detail::Faulty(fault, line, text, points);
+    report_verbose(rt.alloc(), name_of(job, subject), &detail, &mut rt.stderr())
 }
 
 // How an address is written, where this is said of one that is none.
@@ -157,23 +203,15 @@ fn expected_of(job: &Job, subject: Subject, error: io::Error) -> &'static str {
     }
 }
 
-// Why a line of a base was not loaded.
-fn base_words(refusal: Refusal) -> &'static str {
-    match refusal {
-        Refusal::ScriptFault { cause, .. } => match cause {
-            ScriptCause::Line => "a line has at most 200 bytes, of ASCII alone",
-            ScriptCause::Place => {
-                "accounts come first, then elements, then counters, each by rising numbers"
-            }
-            _ => "expected: account A b, element S e or counter C v, as run prints them",
-        },
-        Refusal::NoRoom => "there is no room for this object",
-        _ => "memory ran out",
-    }
-}
-
 // A file or an address as it stands on the command line; standard output for a job without input.
 fn name_of(job: &Job, subject: Subject) -> &str {
+    let is_data = matches!(
+        subject,
+        Subject::Trace | Subject::Load | Subject::Save | Subject::Data
+    );
+    if let (true, Some(folder)) = (is_data, data_of(job)) {
+        return folder;
+    }
     match (subject, job, run_of(job)) {
         (Subject::Input, Job::Serve(serve), _) => serve.run.input.as_str(),
         (Subject::Input, Job::Check(check), _) => file_name(check.input.as_str()),
@@ -183,6 +221,14 @@ fn name_of(job: &Job, subject: Subject) -> &str {
         (Subject::Admin, Job::Serve(serve), _) => given(&serve.operating.admin),
         (Subject::Save, Job::Serve(serve), _) => given(&serve.operating.save),
         _ => "standard output",
+    }
+}
+
+/// The folder of all data of a server, if it has one.
+pub(crate) fn data_of(job: &Job) -> Option<&str> {
+    match job {
+        Job::Serve(serve) => serve.operating.data.as_ref().map(|folder| folder.as_str()),
+        _ => None,
     }
 }
 
@@ -197,25 +243,28 @@ pub(crate) fn run_of(job: &Job) -> Option<&Run> {
     }
 }
 
-fn given(name: &Option<String>) -> &str {
+pub(crate) fn given(name: &Option<String>) -> &str {
     match name {
         Some(name) => name.as_str(),
         None => "",
     }
 }
 
-fn file_name(file: &str) -> &str {
+pub(crate) fn file_name(file: &str) -> &str {
     if file == "-" { "standard input" } else { file }
 }
 
-// The fault of a text that a job read, and its line.
-fn fault_of(job: &Job, refusal: Refusal) -> Option<(TextFault, u64)> {
-    match (refusal, job) {
-        (Refusal::TraceFault { line, cause }, _) => Some((TextFault::Trace(cause), line)),
-        (Refusal::ScriptFault { line, cause }, Job::Steps(_)) => {
+// The fault of a text that a job read from this, and its line.
+fn fault_of(job: &Job, subject: Subject, refusal: Refusal) -> Option<(TextFault, u64)> {
+    match (refusal, subject, job) {
+        (Refusal::TraceFault { line, cause }, _, _) => Some((TextFault::Trace(cause), line)),
+        (Refusal::ScriptFault { line, cause }, Subject::Load, _) => {
+            Some((TextFault::Base(cause), line))
+        }
+        (Refusal::ScriptFault { line, cause }, _, Job::Steps(_)) => {
             Some((TextFault::Schedule(cause), line))
         }
-        (Refusal::ScriptFault { line, cause }, _) => Some((TextFault::Scripts(cause), line)),
+        (Refusal::ScriptFault { line, cause }, _, _) => Some((TextFault::Scripts(cause), line)),
         _ => None,
     }
 }

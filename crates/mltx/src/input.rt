@@ -1,10 +1,16 @@
 //! What the program reads: a file or standard input.
 
 use mlt_text::MAX_INPUT;
-use mlt_types::Refusal;
 use std::fs::File;
 use std::io;
 use std::io::{Read, Stdin};
+use std::os::unix::fs::FileExt;
+
+// With this word the first line of a trace begins, and that of no base.
+const TRACE_WORD: &[u8] = b"begin ";
+
+// How many bytes a line of a trace has at most, with its LF.
+const TRACE_LINE: usize = 201;
 
 // Where the program reads from.
 #[derive(Drop)]
@@ -13,15 +19,14 @@ enum InputSource {
     Standard(Stdin),
     // A file.
     Opened(File),
+    // A text, of which so many bytes were read.
+    Text(Vec<u8>, usize),
 }
 
 /// An input, and what is known of it once it was read.
 #[derive(Drop)]
 pub(crate) struct Input {
     source: InputSource,
-    // What comes before it, and how much of that has come.
-    front: String,
-    at: usize,
     // How many bytes came.
     length: usize,
     // These bytes, where they are kept.
@@ -44,8 +49,6 @@ impl Input {
         };
         Ok(Input {
             source,
-            front: String::new(rt.alloc()),
-            at: 0,
             length: 0,
             kept: if keeps {
                 Some(Vec::new(rt.alloc()))
@@ -56,23 +59,37 @@ impl Input {
         })
     }
 
-    /// The same, behind this text, which is not kept.
-    pub(crate) fn behind(self, front: String) -> Input {
-        Input { front, ..self }
+    /// That of a text.
+    pub(crate) fn of_text(text: Vec<u8>) -> Input {
+        Input {
+            source: InputSource::Text(text, 0),
+            length: 0,
+            kept: None,
+            failed: None,
+        }
     }
 
-    /// A refusal that names a line names that of the input itself.
-    pub(crate) fn placed(&self, refusal: Refusal) -> Refusal {
-        match refusal {
-            Refusal::ScriptFault { line, cause } => {
-                let before = self.front.bytes().filter(|byte| *byte == b'\n').count();
-                Refusal::ScriptFault {
-                    line: line.saturating_sub(before as u64),
-                    cause,
-                }
-            }
-            other => other,
-        }
+    /// Whether it is a file whose first line begins as that of a trace.
+    pub(crate) fn is_trace(&self) -> bool {
+        let InputSource::Opened(file) = &self.source else {
+            return false;
+        };
+        let mut front = [0; 6];
+        let count = file.read_at(&mut front, 0).unwrap_or(0);
+        front.get(..count) == Some(TRACE_WORD)
+    }
+
+    /// How many bytes the whole lines of a file have that is a trace, as far as the system tells.
+    pub(crate) fn whole_lines(&self) -> Option<u64> {
+        let InputSource::Opened(file) = &self.source else {
+            return None;
+        };
+        let length = file.metadata().ok()?.len();
+        let from = length.saturating_sub(TRACE_LINE as u64);
+        let mut end = [0; TRACE_LINE];
+        let count = file.read_at(&mut end, from).ok()?;
+        let last = end.get(..count)?.iter().rposition(|byte| *byte == b'\n')?;
+        Some(from.saturating_add(last as u64).saturating_add(1))
     }
 
     /// Why a read failed, if one did.
@@ -110,16 +127,15 @@ impl Input {
 
 impl Read for Input {
     fn read(&mut self, buf: &mut [u8]) -> io::Result<usize> {
-        let mut rest = self.front.as_bytes().get(self.at..).unwrap_or(&[]);
-        if !rest.is_empty() {
-            let count = rest.read(buf)?;
-            self.at = self.at.saturating_add(count);
-            self.length = self.length.saturating_add(count);
-            return Ok(count);
-        }
         let told = match &mut self.source {
             InputSource::Standard(stdin) => stdin.read(buf),
             InputSource::Opened(file) => file.read(buf),
+            InputSource::Text(text, at) => {
+                let mut rest = text.get(*at..).unwrap_or(&[]);
+                let told = rest.read(buf);
+                *at = at.saturating_add(told.unwrap_or(0));
+                told
+            }
         };
         match told {
             Ok(count) => self.keep(&buf[..count]),

@@ -4,8 +4,11 @@
 //! standard error, is only tested.
 #![tactic(auto)]
 
+mod beginning;
+mod data_folder;
 mod end_signals;
 mod failure;
+mod files;
 mod input;
 mod loading;
 mod opened;
@@ -14,6 +17,7 @@ mod saving;
 mod screen;
 mod server;
 mod streams;
+mod traced;
 
 ghost use Rattle.std.specs.Prelude.{◌≡◌, ◌≤◌, ◌<◌, ◌↔◌, [], true, IfOk, Ok, OnOk};
 ghost use Rattle.std.specs.Io.KnownBytes.{Appends};
@@ -23,7 +27,7 @@ ghost use Rattle.mlt_cli.specs.CommandLine.{IsWithinBounds};
 use clap::error::ErrorKind;
 use failure::{Failure, Subject, explain, run_of};
 use input::Input;
-use loading::{Loading, read_base};
+use loading::{Loading, open_base};
 use mlt_cli::{
     Check, CommandLine, Hash, Job, Run, Schedule, Work, read_words, report_command_line,
     report_fault, status,
@@ -36,7 +40,7 @@ use mlt_manager_laws::{
 use mlt_manager_solo::solo;
 use mlt_manager_steps::steps;
 use mlt_object_tables::{TableName, write_tables};
-use mlt_script::{Script, parse};
+use mlt_script::Script;
 use mlt_script_load::Form;
 use mlt_script_texts::Echoed;
 use mlt_text::write_text;
@@ -146,7 +150,7 @@ fn do_line<T: Threads + Wait + Clock + Sync + Send + Copy + 'static>(
         return status(&Ok(()));
     };
     let status = told_status(rt, failure.refusal);
-    if explains {
+    if explains || failure.is_always_explained() {
         let _ = explain(rt, &line.job, &failure, points);
     }
     status
@@ -176,18 +180,22 @@ fn open(rt: &HostRuntime, file: &str, keeps: bool) -> Result<Input, Failure> {
     Input::open(rt, file, keeps).map_err(|error| Failure::of_call(Subject::Input, error))
 }
 
-// What a run begins with, of which `echoed` is to stand beside the answers if that is asked for: the transactions that make its base,
-// in this form, its input and its screen.
+// What a run begins with, of which `echoed` is to stand beside the answers if that is asked for: the scripts that make its base, whose
+// answers have this form, its input and its screen.
 fn open_run<'a>(
     rt: &'a HostRuntime,
     run: &Run,
     form: Form,
     echoed: Echoed,
     keeps: bool,
-) -> Result<(String, Input, Screen<Printer<'a, HostRuntime>>), Failure> {
-    let base = read_base(rt, &run.load)?;
-    let mut loading = Loading::new(rt.alloc(), base.as_slice(), form)?;
-    let loaded = loading.take_text(rt.alloc());
+) -> Result<(Vec<Script>, Input, Screen<Printer<'a, HostRuntime>>), Failure> {
+    let load = run.load.as_ref().map(|file| file.as_str());
+    let base = match open_base(rt, load, form, None) {
+        Ok(base) => base,
+        Err(end) => return Err(end.failure()),
+    };
+    let mut loading = Loading::read(rt.alloc(), base)?;
+    let loaded = loading.take_scripts(rt.alloc());
     let input = open(rt, run.input.as_str(), keeps || run.echoes)?;
     let echoed = if run.echoes { echoed } else { Echoed::Nothing };
     let screen = Screen::new(rt.alloc(), io::writer(rt), loading, echoed, look_of(rt));
@@ -223,10 +231,9 @@ fn run_solo<P: Pseudo + Drop>(
     keeps: bool,
     pseudo: P,
 ) -> Result<(), Failure> {
-    let (loaded, input, mut screen) = open_run(rt, run, Form::Solo, Echoed::Scripts, keeps)?;
-    let mut input = input.behind(loaded);
+    let (loaded, mut input, mut screen) = open_run(rt, run, Form::Solo, Echoed::Scripts, keeps)?;
     let limits = Limits::program();
-    let told = solo(rt.alloc(), &mut input, &mut screen, limits, pseudo);
+    let told = solo(rt.alloc(), &mut input, &mut screen, loaded, limits, pseudo);
     end_run(rt, run, told, input, &mut screen)
 }
 
@@ -237,8 +244,7 @@ fn run_steps<P: Pseudo + Drop>(
     pseudo: P,
 ) -> Result<(), Failure> {
     let run = &schedule.run;
-    let (loaded, input, mut screen) = open_run(rt, run, Form::Solo, Echoed::Schedule, keeps)?;
-    let mut input = input.behind(loaded);
+    let (_, mut input, mut screen) = open_run(rt, run, Form::Solo, Echoed::Schedule, keeps)?;
     let told = steps(
         rt.alloc(),
         &mut input,
@@ -278,13 +284,13 @@ fn run_tables(rt: &HostRuntime, name: Option<TableName>) -> Result<(), Failure> 
     ))
 }
 
-// The scripts of a text, each as that of a client.
-fn clients_of(alloc: Global, text: &[u8]) -> Result<Vec<Vec<Script>>, Refusal> {
+// These scripts, each as that of a client.
+fn clients_of(alloc: Global, scripts: Vec<Script>) -> Result<Vec<Vec<Script>>, Refusal> {
     let mut clients = Vec::new(alloc);
-    for script in parse(alloc, text)? {
-        let mut scripts = Vec::new(alloc);
-        scripts.push(script)?;
-        clients.push(scripts)?;
+    for script in scripts {
+        let mut own = Vec::new(alloc);
+        own.push(script)?;
+        clients.push(own)?;
     }
     Ok(clients)
 }
@@ -301,7 +307,7 @@ fn run_work<P: Pseudo + Drop + Send, T: Threads + Wait + Clock + Sync>(
 {
     let run = &work.run;
     let (loaded, mut input, mut screen) = open_run(rt, run, Form::Run, Echoed::Clients, keeps)?;
-    let loaded = clients_of(rt.alloc(), loaded.as_bytes())?;
+    let loaded = clients_of(rt.alloc(), loaded)?;
     let options = RunOptions {
         limits: Limits::program(),
         workers: work.workers,

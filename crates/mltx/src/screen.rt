@@ -48,11 +48,11 @@ impl<W: Write> Screen<W> {
 
     /// Why a run of this input was refused so: the base was not loaded, or the answers were not kept, or what the input and
     /// standard output say.
-    pub(crate) fn failure(&self, refusal: Refusal, input: Input) -> Failure {
+    pub(crate) fn failure(&mut self, refusal: Refusal, input: Input) -> Failure {
         if self.is_refused {
             return Failure::from(Refusal::OutOfMemory);
         }
-        match self.loading.failure() {
+        match self.loading.take_failure() {
             Some(failure) => failure,
             None => Failure::of_run(refusal, input, self.output.failure()),
         }

@@ -1,23 +1,24 @@
 //! A server.
 
-ghost use Rattle.std.specs.Prelude.{◌≡◌, ◌≤◌, ◌<◌, ◌↔◌, is_some, true};
+ghost use Rattle.std.specs.Prelude.{◌≡◌, ◌≤◌, ◌<◌, ◌↔◌, true};
 ghost use Rattle.mltx.specs.Options.{AreLimitsOf, IsTimeOf};
 
+use crate::beginning::Beginning;
+use crate::data_folder::DataFolder;
 use crate::end_signals::EndSignals;
-use crate::failure::{Failure, Subject};
-use crate::loading::{Loading, read_base};
+use crate::failure::{Failure, Subject, file_name, given};
+use crate::loading::{LoadEnd, LoadSlot, ServedBase};
 use crate::opened::Opened;
 use crate::output::Output;
-use crate::saving::SaveFile;
+use crate::saving::{Mark, SaveFile};
 use mlt_cli::{Connections, Full, Serve, VERSION};
 use mlt_manager::Manager;
-use mlt_manager_solo::solo;
-use mlt_script_load::Form;
-use mlt_serve::{Admin, Load, Operating, ServeOptions, serve_endless, serve_on};
+use mlt_serve::{Admin, Operating, ServeOptions, Served, ServedEndless, serve_endless, serve_on};
 use mlt_text::write_text;
-use mlt_types::{Limits, Pseudo};
+use mlt_types::{Limits, Pseudo, Refusal};
 use std::io;
-use std::sync::Wait;
+use std::io::ErrorKind;
+use std::sync::{Mutex, Wait};
 use std::thread::Threads;
 use std::time::{Clock, Duration};
 
@@ -39,20 +40,32 @@ pub(crate) fn run_server<
     requires most { serve.now.sessions ≤ 64 }
 {
     let options = serve_options(serve);
-    let base = read_base(rt, &serve.run.load)?;
-    try_base(rt, base.as_slice(), options.limits, pseudo)?;
-    let loading = Loading::new(rt.alloc(), base.as_slice(), Form::Session)?;
-    let opened = Opened::open(rt, serve)?;
-    let signal = EndSignals::new(rt, threads, serve.operating.until_eof)?;
-    let unsaid = opened.report(rt, tells_number)?;
+    let mut signal = EndSignals::new(rt, threads, serve.operating.until_eof)?;
+    let Beginning {
+        base,
+        save,
+        data,
+        told,
+    } = match Beginning::open(rt, serve, &mut signal) {
+        Ok(beginning) => beginning,
+        Err(end) => return tell_end(rt, serve, end),
+    };
+    let trace = match &data {
+        Some(data) => Some(data.trace.as_str()),
+        None => serve.run.trace.as_ref().map(|file| file.as_str()),
+    };
+    let opened = Opened::open(rt, serve, trace)?;
+    opened.spare_descriptors()?;
+    let loses = save.is_some() && !signal.are_held();
+    let unsaid = opened.report(rt, told, tells_number, loses)?;
     let Opened {
         listener,
         admin,
         trace,
-        save,
         keys,
         number,
     } = opened;
+    let save = save.map(Mutex::new);
     let operating = Operating {
         notes: rt.stderr(),
         unsaid,
@@ -67,73 +80,108 @@ pub(crate) fn run_server<
             }),
             None => None,
         },
-        load: load_of(serve, &loading),
+        save: save.as_ref(),
     };
-    let (connections, trace_failure, saved) = match serve.connections {
+    let end = LoadSlot::new(rt.alloc())?;
+    let base = ServedBase::new(rt.alloc(), base, end.clone()?);
+    let (connections, manager, trace_failure) = match serve.connections {
         Connections::Limit(_) => {
-            let served = serve_on(threads, rt.alloc(), &listener, pseudo, &options, operating)?;
-            let saved = close(rt, save, served.manager);
-            (served.connections, served.trace_failure, saved)
+            let served = match serve_on(
+                threads,
+                rt.alloc(),
+                &listener,
+                pseudo,
+                &options,
+                operating,
+                base,
+            ) {
+                Ok(served) => served,
+                Err(refusal) => return tell_refusal(rt, serve, end.take(), refusal),
+            };
+            (served.connections, served.manager, served.trace_failure)
         }
         Connections::Endless => {
-            let told = serve_endless(threads, rt.alloc(), &listener, pseudo, &options, operating)?;
-            let saved = close(rt, save, told.manager);
-            (told.connections, told.trace_failure, saved)
+            let told = match serve_endless(
+                threads,
+                rt.alloc(),
+                &listener,
+                pseudo,
+                &options,
+                operating,
+                base,
+            ) {
+                Ok(told) => told,
+                Err(refusal) => return tell_refusal(rt, serve, end.take(), refusal),
+            };
+            (told.connections, told.manager, told.trace_failure)
         }
     };
-    let loads = u64::from(serve.run.load.is_some());
-    write_served(rt, connections.saturating_sub(loads))?;
+    let save = save.map(|save| save.into_inner());
+    // A trace that has not got all is older than the base, also where the server is killed before the trace is moved away.
+    let mark = match &trace_failure {
+        Some(_) => Mark::After(manager.commits()),
+        None => Mark::Loaded,
+    };
+    let saved = save_base(save, &data, &manager, mark);
+    manager.close();
     saved?;
+    write_served(rt, connections)?;
     match trace_failure {
         Some(error) => Err(Failure::of_call(Subject::Trace, error)),
         None => Ok(()),
     }
 }
 
-// The base of the server, as its first session hears it.
-fn load_of<'a>(serve: &Serve, loading: &'a Loading) -> Option<Load<'a>> {
-    if serve.run.load.is_none() {
-        return None;
-    }
-    let (lines, answers) = loading.texts();
-    Some(Load {
-        lines: lines.as_bytes(),
-        answers: answers.as_bytes(),
-    })
-}
-
-// Whether a manager within these limits takes the base, alone and before the server opens anything: what is refused is told with its
-// line.
-fn try_base<P: Pseudo + Drop>(
+// Why a server was refused, whose base was not loaded for this reason, if it was not.
+fn tell_refusal(
     rt: &HostRuntime,
-    base: &[u8],
-    limits: Limits,
-    pseudo: P,
+    serve: &Serve,
+    end: Option<LoadEnd>,
+    refusal: Refusal,
 ) -> Result<(), Failure> {
-    let mut loading = Loading::new(rt.alloc(), base, Form::Solo)?;
-    let text = loading.take_text(rt.alloc());
-    let mut scripts = text.as_bytes();
-    match solo(rt.alloc(), &mut scripts, &mut loading, limits, pseudo) {
-        Ok(manager) => {
-            manager.close();
-            Ok(())
-        }
-        Err(refusal) => Err(loading.failure().unwrap_or(Failure::from(refusal))),
+    match end {
+        Some(end) => tell_end(rt, serve, end),
+        None => Err(Failure::from(refusal)),
     }
 }
 
-// Ends the manager, once its base is saved, where that is asked for.
-fn close<P: Pseudo + Drop>(
-    rt: &HostRuntime,
-    save: Option<SaveFile>,
-    manager: Manager<P>,
-) -> Result<(), Failure> {
-    let saved = match save {
-        Some(file) => file.save(rt, &manager),
-        None => Ok(()),
+// Why a base was not loaded. Where the server was to end before, that is told, and it ends as it was to.
+fn tell_end(rt: &HostRuntime, serve: &Serve, end: LoadEnd) -> Result<(), Failure> {
+    if let LoadEnd::Failed(failure) = end {
+        return Err(failure);
+    }
+    let file = match &serve.operating.data {
+        Some(folder) => folder.as_str(),
+        None => file_name(given(&serve.run.load)),
     };
-    manager.close();
-    saved
+    let text = format!(in rt.alloc(); "mltx: stopped while loading {file}; nothing was saved\n")?;
+    // The status tells that the server has ended as it was to also where the line can't be written.
+    let _ = write_text(&mut rt.stderr(), text.as_bytes());
+    Ok(())
+}
+
+// Saves the base of the manager, where that is asked for, in a folder with this mark. The trace is kept there as that of before then.
+fn save_base<P: Pseudo>(
+    save: Option<SaveFile>,
+    data: &Option<DataFolder>,
+    manager: &Manager<P>,
+    mark: Mark,
+) -> Result<(), Failure> {
+    let Some(mut file) = save else {
+        return Ok(());
+    };
+    let Ok(base) = manager.base() else {
+        return Err(Failure::of_save(ErrorKind::OutOfMemory.into(), None));
+    };
+    if let Err(error) = file.save_marked(&base, mark) {
+        return Err(Failure::of_save(error, file.rescue(&base)));
+    }
+    match data {
+        Some(data) => data
+            .keep_trace()
+            .map_err(|error| Failure::of_call(Subject::Data, error)),
+        None => Ok(()),
+    }
 }
 
 // How many connections a server without an end accepts, as many as it has numbers of transactions.
@@ -142,14 +190,13 @@ const MOST_CONNECTIONS: u64 = (1 << 63) - 1;
 fn serve_options(serve: &Serve) -> ServeOptions
     ensures sessions { result.sessions ≡ serve.now.sessions }
     ensures tries { result.tries ≡ serve.now.tries }
-    ensures limits { AreLimitsOf serve.now.connections (is_some serve.now.run.load)
-        result.limits result.connections }
+    ensures limits { AreLimitsOf serve.now.connections result.limits result.connections }
     ensures idle { IsTimeOf serve.now.times.idle result.idle }
     ensures wait { IsTimeOf serve.now.times.wait result.wait }
     ensures open { IsTimeOf serve.now.times.transaction result.open }
     ensures refuses { (serve.now.full ≡ Full.Refuse) ↔ (result.refuses ≡ true) }
 {
-    let (limits, connections) = limits_of(&serve.connections, serve.run.load.is_some());
+    let (limits, connections) = limits_of(&serve.connections);
     ServeOptions {
         limits,
         sessions: serve.sessions,
@@ -162,14 +209,13 @@ fn serve_options(serve: &Serve) -> ServeOptions
     }
 }
 
-// The limits of the manager, and how many connections are accepted, with that which loads a base.
-fn limits_of(connections: &Connections, loads: bool) -> (Limits, u64)
-    ensures { AreLimitsOf connections.now loads result.0 result.1 }
+// The limits of the manager, and how many connections are accepted.
+fn limits_of(connections: &Connections) -> (Limits, u64)
+    ensures { AreLimitsOf connections.now result.0 result.1 }
 {
-    let loading = if loads { 1 } else { 0 };
     match connections {
-        Connections::Limit(limit) => (Limits::program(), u64::from(*limit) + loading),
-        Connections::Endless => (Limits::endless(), MOST_CONNECTIONS + loading),
+        Connections::Limit(limit) => (Limits::program(), u64::from(*limit)),
+        Connections::Endless => (Limits::endless(), MOST_CONNECTIONS),
     }
 }
 
