@@ -15,7 +15,10 @@ from pathlib import Path
 from harness import PATIENCE, ROOT, VERSION, Program, Ran, each, expect, holds, match, same, test
 
 # What of this repository stands in the copy.
-COPIED = ("mltx", "tools/quick-build", "tools/proved-build", "crates.txt", "crates/mltx/src", "crates/mlt_cli/src")
+COPIED = (
+    *("mltx", "contrib/mltx", "docs/mltx.1", "tools/quick-build", "tools/proved-build", "crates.txt"),
+    *("crates/mltx/src", "crates/mlt_cli/src"),
+)
 # The kit's rt. Each call is noted in $NOTES, and files there say how it is to work: `try` without proof, `run` with it.
 RT = r"""#!/bin/sh
 kit=$(dirname "$(dirname "$(readlink -f "$0")")")
@@ -113,15 +116,15 @@ class Tree:
         self.env: Mapping[str, str] = {**os.environ, **paths}
         self.unproved, self.proved = self.top / "out/unproved/mltx", self.top / "crates/mltx/out/mltx"
 
-    def start(self, *words: str) -> subprocess.Popen[bytes]:
-        """The script, started with these words, in a group of processes of its own."""
+    def start(self, *words: str, command: Path | None = None) -> subprocess.Popen[bytes]:
+        """The script, or another one, started with these words, in a group of processes of its own."""
         pipe = subprocess.PIPE
-        command = [str(self.top / "mltx"), *words]
+        command = command or self.top / "mltx"
         # An interrupt ends it, also where the tests were started with interrupts ignored, as a shell starts what it has in the
         # background.
         heed = partial(signal.signal, signal.SIGINT, signal.SIG_DFL)
         return subprocess.Popen(
-            command, env=self.env, start_new_session=True, stdin=pipe, stdout=pipe, stderr=pipe, preexec_fn=heed
+            [command, *words], env=self.env, start_new_session=True, stdin=pipe, stdout=pipe, stderr=pipe, preexec_fn=heed
         )
 
     def run(self, *words: str) -> Ran:
@@ -348,16 +351,27 @@ def older_program_answers_what_changes_seldom(mltx: Program) -> None:
 
 
 @test
-def program_that_was_run_is_installed(mltx: Program) -> None:
-    """The command of docs/OPERATING.md installs it, after the first run and after a proof."""
+def install(mltx: Program) -> None:
+    """The command of docs/OPERATING.md installs the program that would be run, what starts it, and its man page."""
     tree, home = Tree(mltx), mltx.folder / "home"
-    command = match(r"(?m)^    (install .*)$", (ROOT / "docs/OPERATING.md").read_text())[1]
-    for kind in ("unproved", "proved"):
-        tree.run("solo")
-        subprocess.run(["sh", "-c", command], cwd=tree.top, env={**tree.env, "HOME": str(home)}, check=True)
-        ran = subprocess.run([home / ".local/bin/mltx", "solo"], input=b"", capture_output=True)
-        same((ran.stdout, (home / ".local/bin/mltx").is_symlink()), (f"{kind} solo\n".encode(), False), "what is installed")
+    command = match(r"(?m)^    (\./mltx install)$", (ROOT / "docs/OPERATING.md").read_text())[1]
+    installed = home / ".local/bin/mltx"
+    env = {**tree.env, "HOME": str(home)}
+    for kind, told in (("unproved", BUILDS + BUILT), ("proved", "")):
+        ran = subprocess.run(command.split(), cwd=tree.top, env=env, capture_output=True)
+        said = f"{told}mltx: installed as {installed}\n"
+        expect(Ran(ran.returncode, ran.stdout, without_times(ran.stderr)), err=said, what=kind)
+        ran = subprocess.run([installed, "solo", "a  b"], input=b"given\n", capture_output=True)
+        shows(Ran(ran.returncode, ran.stdout, ran.stderr), kind)
         tree.prove()
+    found = sorted(str(path.relative_to(home / ".local")) for path in home.rglob("*") if path.is_file())
+    same(found, ["bin/mltx", "libexec/mltx/mltx", "share/man/man1/mltx.1"], "what is installed")
+    home.rename(mltx.folder / "a = b")
+    link = mltx.folder / "linked"
+    link.symlink_to(mltx.folder / "a = b/.local/bin/mltx")
+    for words in (["solo", "a  b"], ["serve", "a  b"]):
+        ran = subprocess.run([link, *words], input=b"given\n", capture_output=True)
+        shows(Ran(ran.returncode, ran.stdout, ran.stderr), "proved", words=" ".join(words))
 
 
 @test
@@ -396,14 +410,15 @@ def interrupt_of_a_first_run(mltx: Program, case: tuple[list[str], str, str]) ->
 
 @test(seconds=1)
 def signal_stops_a_server_of_the_script(mltx: Program) -> None:
-    """SIGTERM is a stop to the server that it becomes, in order. It ends another command at once, and a server too where no env
-    blocks signals."""
+    """SIGTERM is a stop to the server that it becomes, in order, as where it is installed. It ends another command at once, and a
+    server too where no env blocks signals."""
     tree = Tree(mltx)
     tree.run("solo")
     shutil.copy(mltx.path, tree.unproved)
+    tree.run("install", str(mltx.folder / "prefix"))
 
-    def signalled(*words: str) -> tuple[int, bytes]:
-        process = tree.start(*words)
+    def signalled(*words: str, command: Path = tree.top / "mltx") -> tuple[int, bytes]:
+        process = tree.start(*words, command=command)
         assert process.stderr is not None
         if "solo" not in words:
             same(process.stderr.readline()[:18], b"mltx: listening on", "the server")
@@ -414,7 +429,8 @@ def signal_stops_a_server_of_the_script(mltx: Program) -> None:
         return ran.status, ran.out
 
     for words in (["serve", "127.0.0.1:0"], ["-v", "serve", "127.0.0.1:0"], ["serve", "127.0.0.1:0", "-v"]):
-        same(signalled(*words), (0, b"served 0\n"), f"{words}, once it got a signal")
+        for command in (tree.top / "mltx", mltx.folder / "prefix/bin/mltx"):
+            same(signalled(*words, command=command), (0, b"served 0\n"), f"{command} {words}, once it got a signal")
     same(signalled("solo", "-"), (-signal.SIGTERM, b""), "another command")
     env = mltx.folder / "bin/env"
     env.write_text("#!/bin/sh\nexit 125\n")
