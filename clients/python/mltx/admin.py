@@ -75,14 +75,20 @@ class Operator:
 
     def objects(self, kind: str, of: Optional[int] = None) -> Iterator[tuple[int, Optional[int]]]:
         """By the `kind` "account" or "counter" the numbers of all of these, each with what it holds, and by the kind "set" the
-        elements of the set `of`, each with None. Changes of open transactions count."""
-        start: Optional[int] = 0
-        while start is not None:
-            path = f"/base?kind={kind}&from={start}" + ("" if of is None else f"&of={of}")
+        elements of the set `of`, each with None; in no order. Changes of open transactions count."""
+        place: Optional[int] = 0
+        while place is not None:
+            path = f"/base?kind={kind}&from={place}" + ("" if of is None else f"&of={of}")
             with self._understood(path):
                 told = self._told("GET", path)
-                listed, start = [(it["number"], it.get("value")) for it in told["objects"]], told["next"]
+                listed, place = [(it["number"], it.get("value")) for it in told["objects"]], told["next"]
             yield from listed
+
+    def save(self) -> int:
+        """Has the server save what has committed, and returns how many transactions these are. A server that was started without
+        `--save`, or whose system refuses it, raises `UnexpectedAnswer`."""
+        with self._understood("/save"):
+            return int(self._told("POST", "/save")["commits"])
 
     def waits(self) -> list[Wait]:
         """Which transaction waits for which."""

@@ -301,5 +301,8 @@ class Operator:
     async def end_session(self, client: int) -> None:
         await asyncio.to_thread(self._operator.end_session, client)
 
+    async def save(self) -> int:
+        return await asyncio.to_thread(self._operator.save)
+
     async def stop(self) -> None:
         await asyncio.to_thread(self._operator.stop)
