@@ -23,6 +23,7 @@ from unittest import mock
 
 from harness import BROKEN, BY_OPERATOR, PATIENCE, ROOT, Program, Server, comes_to_be, cut_for, each, expect, free_address, holds
 from harness import lines, match, same, test
+from serving import NO_SESSION
 
 FOLDER = ROOT / "clients/python"
 sys.path.insert(0, str(FOLDER))
@@ -652,7 +653,7 @@ def client_that_is_refused_while_all_sessions_are_taken(mltx: Program) -> None:
             held.commit()
             holder.close()
             same(client.run(lambda tx: tx.up(7, 1), retries=PATIENT), Reply.DONE, "once the session is free")
-        expect(server.end(), out="served 2\n")
+        expect(server.end(), out="served 2\n", notes=[NO_SESSION])
 
 
 # What an operator sees and does.

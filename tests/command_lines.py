@@ -88,8 +88,9 @@ OF_OPTIONS = {
     "--hash <HASH>": "Hash function of the pages [default: mult] [possible values: mult, low]",
     "--trace <FILE>": "Write a trace of the transactions to FILE",
     "--echo": "Print each line of FILE, and its answer beside it",
-    "--load <FILE>": "Begin with the accounts, elements and counters of FILE, which are lines as `run` prints them",
-    "--save <FILE>": "When the server exits, write its accounts, elements and counters to FILE, for --load",
+    "--load <FILE>": "Begin with the accounts, elements and counters of FILE, as `run` prints them, or of a trace",
+    "--save <FILE>": "When the server stops, save its accounts, elements and counters in FILE, for --load",
+    "--data <FOLDER>": "Keep them and the trace in FOLDER, and begin with what is there, also after a crash",
     "--explain": "After each event that is blocked or waits, print the reason in lines that begin with `#`",
     "--workers <N>": "Run the scripts in N threads that take turns, 1 to 8; more are not faster [default: 4]",
     "--tries <N>": "Answer GaveUp after N waits for other transactions, 1 to 1000000 [default: 10000]",
@@ -129,7 +130,7 @@ HELP = {
     ),
     "serve": (
         "Listen on ADDR and serve clients, which send lines and get an answer to each",
-        *("<ADDR>", (*OF_A_RUN, "--load <FILE>", "--save <FILE>"), "serve 127.0.0.1:7000 --limit 2"),
+        *("<ADDR>", (*OF_A_RUN, "--load <FILE>", "--save <FILE>", "--data <FOLDER>"), "serve 127.0.0.1:7000 --limit 2"),
     ),
     "tables": (
         "Print which operations conflict, with an example of each conflict",
@@ -147,7 +148,7 @@ GROUPS = {
 # What the help has to say below that.
 BELOW = {
     "serve": (
-        "mltx serve 127.0.0.1:7000 --endless --sessions 64 --idle 600 --admin 127.0.0.1:7001",
+        "mltx serve 127.0.0.1:7000 --endless --sessions 64 --idle 600 --data data --admin 127.0.0.1:7001",
         "mltx: listening on 127.0.0.1:7000",
     ),
 }

@@ -356,7 +356,7 @@ def version_of_the_pages_is_that_of_the_program(_mltx: Program) -> None:
 def options_of_the_pages_exist(_mltx: Program) -> None:
     """Each option that a page for users names is one of the program, as its help shows, or of a tool that the page calls."""
     known = set(re.findall(r"(?m)^ +(?:-\w, )?(--[\w-]+)", (ROOT / "docs/CLI.md").read_text()))
-    known |= {"--page", "--pid", "--write", "--block-signal", "--ignore-signal"}
+    known |= {"--page", "--pid", "--write"}
     names = ("TUTORIAL", "CONCEPTS", "LANGUAGE", "SCHEDULES", "PROTOCOL", "OPERATING", "CLI")
     for page in ("README.md", *(f"docs/{name}.md" for name in names)):
         named = set(re.findall(r"(?<![\w-])--[a-z][\w-]*", (ROOT / page).read_text()))

@@ -1,5 +1,6 @@
 """The trace of a server, which is written while it serves: it is there from the start on, has whole lines at each moment, also
 where the server is killed, and goes on without what can't be written."""
+import calendar
 import errno
 import os
 import random
@@ -14,7 +15,7 @@ from contextlib import contextmanager
 from pathlib import Path
 
 from harness import PATIENCE, Failed, Program, Server, comes_to_be, each, expect, holds, lines, listening, may_break_off
-from harness import of_system, same, takes, test
+from harness import match, of_system, same, takes, test
 from serving import IO, says
 
 
@@ -37,42 +38,52 @@ def trace_of_counter(number: int, first: int = 1) -> str:
     return "".join(items)
 
 
+DATED = r"\d{4}-\d\d-\d\dT\d\d-\d\d-\d\dZ"
+
+
+def beside(file: Path) -> dict[str, str]:
+    """What stands in the files beside this one that have its name, a dot and a date, by the rest of their names."""
+    found = {path.name.removeprefix(file.name + "."): path.read_text() for path in file.parent.glob(file.name + ".*")}
+    same([name for name in found if not re.fullmatch(DATED + r"(-\d+)?", name)], [], "names that are no date")
+    return found
+
+
 @test(seconds=2)
 def restart_keeps_earlier_traces(mltx: Program) -> None:
-    """A file that holds something is moved to the first free name, on each start; an empty one is not."""
-    trace, numbered = mltx.folder / "trace", {number: mltx.folder / f"trace.{number}" for number in range(1, 5)}
-    numbered[2].write_text("another file\n")
-    for number, moved in ((1, []), (2, [1]), (3, [1, 3])):
+    """A file that holds something gets the time as its name, on each start; an empty one does not."""
+    trace, began = mltx.folder / "trace", int(time.time())
+    for number in (1, 2, 3):
         with mltx.serve("--trace", trace) as server:
             server.talk(lines("begin|up 7 1|commit") * number + "quit\n")
             expect(server.end(), out="served 1\n")
         same(trace.read_text(), trace_of_counter(number), f"the trace of server {number}")
-        same([one for one in (1, 3, 4) if numbered[one].exists()], moved, f"the numbers that server {number} finds taken")
-    same(numbered[1].read_text(), trace_of_counter(1), "the trace of the first server")
-    same(numbered[2].read_text(), "another file\n", "a file that stood there")
-    same(numbered[3].read_text(), trace_of_counter(2), "the trace of the second server")
+        same(sorted(beside(trace).values()), sorted(trace_of_counter(one) for one in range(1, number)), "earlier traces")
+    for name in beside(trace):
+        at = calendar.timegm(time.strptime(match(DATED, name)[0], "%Y-%m-%dT%H-%M-%SZ"))
+        holds(began <= at <= time.time(), f"the date of {name} is not that of its time")
     trace.write_text("")
     with mltx.serve("--trace", trace) as server:
         server.talk("quit\n")
         expect(server.end(), out="served 1\n")
-    holds(not numbered[4].exists(), "an empty trace was moved")
+    same(len(beside(trace)), 2, "the earlier traces, after an empty one")
 
 
-@test
-def trace_without_a_free_name(mltx: Program) -> None:
-    """Where all names are taken the server does not start, and the file stays as it was."""
+@test(seconds=3)
+def traces_of_one_second(mltx: Program) -> None:
+    """The name of that second is taken, and so are some with a number: the first free number is taken, and no file is changed."""
     trace = mltx.folder / "trace"
     trace.write_text(trace_of_counter(1))
-    for number in range(1, 1000):
-        (mltx.folder / f"trace.{number}").touch()
-    second = f"{IO}mltx: {trace}: it holds a trace, and no name from FILE.1 to FILE.999 is free\n"
-    expect(mltx.run("serve", "-v", "127.0.0.1:0", "--trace", trace), status=1, err=second)
-    same(trace.read_text(), trace_of_counter(1), "the trace")
-    (mltx.folder / "trace.999").unlink()
+    now = int(time.time())
+    taken = {f"{trace}.{time.strftime('%Y-%m-%dT%H-%M-%SZ', time.gmtime(at))}" for at in range(now, now + PATIENCE)}
+    for name in taken:
+        Path(name).write_text("another file\n")
+        Path(name + "-2").symlink_to("nowhere")
     with mltx.serve("--trace", trace) as server:
         server.talk("quit\n")
         expect(server.end(), out="served 1\n")
-    same((mltx.folder / "trace.999").read_text(), trace_of_counter(1), "the trace that was moved to the last name")
+    moved = [path for path in mltx.folder.glob("trace.*Z-*") if not path.is_symlink()]
+    same([(path.name[-2:], path.read_text()) for path in moved], [("-3", trace_of_counter(1))], "the trace that was moved")
+    same({Path(name).read_text() for name in taken}, {"another file\n"}, "files that stood there")
 
 
 @test
@@ -84,9 +95,9 @@ def trace_behind_a_link(mltx: Program) -> None:
     with mltx.serve("--trace", trace) as server:
         server.talk(lines("begin|up 7 1|commit") * 2 + "quit\n")
         expect(server.end(), out="served 1\n")
-    holds(trace.is_symlink() and not (mltx.folder / "trace.1").exists(), "the symlink was moved")
+    holds(trace.is_symlink() and not beside(trace), "the symlink was moved")
     same(file.read_text(), trace_of_counter(2), "the trace")
-    same((mltx.folder / "file.1").read_text(), trace_of_counter(1), "the trace of before")
+    same(list(beside(file).values()), [trace_of_counter(1)], "the trace of before")
 
 
 @test(seconds=2)
@@ -190,7 +201,7 @@ def two_servers_with_one_trace(mltx: Program) -> None:
             comes_to_be(lambda: trace.read_text() == trace_of_counter(tx), "the trace is written")
         says(peer, "quit", "bye")
         expect(server.end(), out="served 1\n")
-    holds(not (mltx.folder / "trace.1").exists(), "a trace was moved")
+    same(beside(trace), {}, "traces that were moved")
     with mltx.serve("--trace", "/dev/null") as one, mltx.serve("--trace", "/dev/null") as other:
         for server in (one, other):
             server.talk("quit\n")

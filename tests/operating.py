@@ -1,10 +1,9 @@
 """What an operator sees of a server and does to it, by HTTP: counts, waits, sessions, the page; the end of a session, or all."""
+import errno
 import http.client
 import itertools
 import json
-import os
 import re
-import shlex
 import signal
 import socket
 import subprocess
@@ -16,19 +15,19 @@ from contextlib import ExitStack, contextmanager, suppress
 from typing import Any
 
 from harness import BY_OPERATOR, PATIENCE, ROOT, STOPS, Failed, Peer, Program, Server, cut_for, each, expect, free_address, holds
-from harness import in_time, match, may_break_off, same, takes, test
+from harness import in_time, match, may_break_off, of_system, same, takes, test
 from live_traces import under_load
 from pages import browsers
 from sessions import says_nothing, send_and_hear_nothing
-from serving import SLACK, STOPPING, is_noted, refuses, says, takes_no_more
+from serving import NO_SESSION, SLACK, STOPPING, TOO_MANY, held, is_noted, refuses, says, takes_no_more
 
 JSON, TEXT = "application/json", "text/plain; charset=utf-8"
 MARK = {"X-Mltx": "1"}
 Row = dict[str, Any]
 NUMBERS = [
-    *("server", "seconds", "sessions", "session_threads", "queued", "connections", "limit", "open", "begun", "most_begun"),
-    *("operations", "commits", "aborts", "gave_up", "deadlocks", "no_room", "events", "items", "bytes", "pages", "most_pages"),
-    *("depth", "room", "trace", "trace_failed", "stopping"),
+    *("server", "seconds", "sessions", "session_threads", "queued", "connections", "refused", "limit", "open", "begun"),
+    *("most_begun", "operations", "commits", "aborts", "gave_up", "deadlocks", "no_room", "events", "items", "bytes", "pages"),
+    *("most_pages", "depth", "room", "trace", "trace_failed", "saves", "loading", "stopping"),
 ]
 TIMES = ("transaction_times", "wait_times")
 # The greatest time of each bucket but the last, in microseconds.
@@ -257,6 +256,25 @@ def notes_on_no_room_and_on_the_deepest_directory(mltx: Program) -> None:
         expect(server.end(said=""), out="served 2\n", notes=[NO_ROOM, DEEPEST])
 
 
+@test
+def refused_clients_are_counted(mltx: Program) -> None:
+    """With `--full refuse`, apart from connections. The first one is noted."""
+    names = ("sessions", "queued", "connections", "refused")
+    with operated(mltx, "--full", "refuse", "--sessions", 1, limit=2) as server:
+        with server.connect() as holder:
+            says(holder, "begin", "begun 1")
+            same(counts(server, *names), dict(zip(names, (1, 0, 1, 0))), "with one client")
+            for number in (1, 2, 3):
+                same(server.talk("begin\n"), TOO_MANY, "a client beyond the sessions")
+                same(counts(server, *names), dict(zip(names, (1, 0, 1, number))), f"with {number} refused")
+            same(server.next_note(), NO_SESSION)
+            holds(b"\nmltx_refused_connections_total 3\n" in answer(server, "/metrics")[2], "/metrics tells another number")
+            says(holder, "quit", "bye")
+        comes(server, "/status", lambda told: told["sessions"] == 0, "the client has left")
+        server.talk("quit\n")
+        expect(server.end(said=""), out="served 2\n", notes=[NO_SESSION])
+
+
 @test(seconds=6)
 def note_on_pages_that_get_few(mltx: Program) -> None:
     """From nine in ten of the pages on it is noted once; not before, and clients go on. The directory is deep at once."""
@@ -283,10 +301,10 @@ def note_on_pages_that_get_few(mltx: Program) -> None:
 # What a server tells once `busy` has made these numbers, each another one but for zeros. Words in capitals are not known.
 STATUS_TEXT = (
     '{"server":SERVER,"version":"VERSION","address":"ADDRESS","seconds":SECONDS,'
-    '"sessions":6,"session_threads":7,"queued":0,"connections":8,"limit":77,"open":5,'
+    '"sessions":6,"session_threads":7,"queued":0,"connections":8,"refused":0,"limit":77,"open":5,'
     '"begun":24,"most_begun":4294967296,"operations":14,"commits":10,"aborts":9,"gave_up":3,"deadlocks":2,"no_room":0,'
     '"events":EVENTS,"items":59,"bytes":3744,"pages":4,"most_pages":65793,"depth":1,"room":524288,"trace":0,'
-    '"trace_failed":0,"stopping":0,"transaction_times":TIMES,"wait_times":TIMES}\n'
+    '"trace_failed":0,"saves":0,"loading":0,"stopping":0,"transaction_times":TIMES,"wait_times":TIMES}\n'
 )
 TIMES_TEXT = f'{{"bounds":[{",".join(map(str, BOUNDS))}],"counts":[COUNTS],"microseconds":SUM}}'
 
@@ -309,6 +327,9 @@ mltx_queued_connections 0
 # HELP mltx_connections_total Connections that were accepted.
 # TYPE mltx_connections_total counter
 mltx_connections_total 8
+# HELP mltx_refused_connections_total Clients that were refused since all sessions were taken.
+# TYPE mltx_refused_connections_total counter
+mltx_refused_connections_total 0
 # HELP mltx_connection_limit Connections that the server accepts at most.
 # TYPE mltx_connection_limit gauge
 mltx_connection_limit 77
@@ -366,6 +387,12 @@ mltx_trace 0
 # HELP mltx_trace_failed 1 if the trace could not be written, else 0.
 # TYPE mltx_trace_failed gauge
 mltx_trace_failed 0
+# HELP mltx_saves 1 if the server can save its base, else 0.
+# TYPE mltx_saves gauge
+mltx_saves 0
+# HELP mltx_loading 1 if the server is loading its data, else 0.
+# TYPE mltx_loading gauge
+mltx_loading 0
 # HELP mltx_stopping 1 if the server is shutting down, else 0.
 # TYPE mltx_stopping gauge
 mltx_stopping 0
@@ -645,7 +672,8 @@ def wait_for_a_page_as_text(mltx: Program) -> None:
 
 
 PATHS = {
-    **dict.fromkeys(("/status", "/metrics", "/waits", "/sessions", "/"), "GET"), "/stop": "POST", "/sessions/1/end": "POST",
+    **dict.fromkeys(("/status", "/metrics", "/waits", "/sessions", "/"), "GET"),
+    **dict.fromkeys(("/save", "/stop", "/sessions/1/end"), "POST"),
 }
 
 
@@ -668,7 +696,7 @@ def other_requests_are_refused(mltx: Program) -> None:
                     same(answer(server, path, other, MARK)[0], 405, f"{other} {path}")
         marks: list[dict[str, str]] = [{}, {"X-Mltx": "0"}, {"X-Mltx": ""}, {"X-Mltx": "11"}, {"X-Other": "1"}]
         for headers in [*marks, {"Cookie": "X-Mltx: 1"}]:
-            for path in ("/stop", "/sessions/1/end", "/sessions/99/end"):
+            for path in ("/save", "/stop", "/sessions/1/end", "/sessions/99/end"):
                 same(answer(server, path, "POST", headers)[0], 403, f"POST {path} with {headers}")
         says(peer, "begin", "begun 1", "up 1 1", "done")
         same(counts(server, "stopping", "sessions"), {"stopping": 0, "sessions": 1}, "the server")
@@ -706,6 +734,10 @@ ANSWERS = {
     ("HEAD", "/stop"): ("405 Method Not Allowed", "allow: POST\r\n", TEXT, ANOTHER),
     ("GET", "/sessions/1/end"): ("405 Method Not Allowed", "allow: POST\r\n", TEXT, ANOTHER),
     ("POST", "/stop"): ("403 Forbidden", "", TEXT, UNMARKED),
+    ("POST", "/save"): ("403 Forbidden", "", TEXT, UNMARKED),
+    ("POST X-Mltx: 1", "/save"): (
+        "404 Not Found", "", TEXT, "The server has no file for its base: it was started without --data or --save.\n",
+    ),
     ("POST X-Mltx: 1", "/sessions/9/end"): ("404 Not Found", "", TEXT, "There is no session of this client.\n"),
     ("POST X-Mltx: 1", "/sessions/1/end"): ("200 OK", "", JSON, '{"ended":1}\n'),
     ("POST X-Mltx: 1", "/stop"): ("200 OK", "", JSON, '{"stopping":true}\n'),
@@ -763,7 +795,7 @@ def foreign_hosts_are_refused(mltx: Program) -> None:
         for headers in ({"Host": "evil.example:PORT", "Origin": "http://evil.example:PORT"}, {"Host": ""}):
             same(answers(headers), [refused, refused], f"a request with {headers}")
         marked = "Host: evil.example\r\nX-Mltx: 1\r\n\r\n"
-        for path in ("/sessions/1/end", "/stop"):
+        for path in ("/sessions/1/end", "/save", "/stop"):
             same(answer_to(server, f"POST {path} HTTP/1.1\r\n{marked}"), refused, f"POST {path}")
         for path in ("/", "/nosuch", "/stop"):
             same(answer_to(server, f"GET {path} HTTP/1.1\r\n{marked}"), refused, f"GET {path}")
@@ -936,23 +968,40 @@ def operator_stops_the_server(mltx: Program) -> None:
 
 @test(seconds=1)
 def server_is_stopped_as_systemd_does(mltx: Program) -> None:
-    """With the options of the unit, and by its command, which ends once the server has ended in order. A limit of the size of
-    files would cut the trace."""
+    """With the options of the unit, by SIGTERM, in the folder that it has: what it keeps the next one begins with."""
     unit = (ROOT / "contrib/mltx.service").read_text()
-    holds("\nLimitFSIZE=infinity\n" in unit, "the unit limits the size of files")
     options = match("(?m)^ExecStart=/usr/local/bin/mltx serve 127.0.0.1:7000 (.*) --admin 127.0.0.1:7001 -v$", unit)[1].split()
-    line = match("(?m)^ExecStop=(.*)$", unit)[1]
-    with mltx.serve(*options, "-v", limit=None, admin=free_address()) as server, served(server) as peer:
-        server.limit = 2**63 - 1
-        said = [server.first_line() for _ in range(3)]
-        match("^mltx: server [0-9]+$", said[2])
-        says(peer, "begin", "begun 1", "up 1 1", "done")
-        words = shlex.split(line.replace("127.0.0.1:7001", "%s:%d" % server.admin))
-        env = {**os.environ, "MAINPID": str(server.process.pid)}
-        with takes(0, PATIENCE, "the command ended"), subprocess.Popen(words, env=env, stdout=subprocess.DEVNULL) as stopping:
-            ended = server.end(said="")
-            same(stopping.wait(PATIENCE), 0, "the status of the command")
-    expect(ended, out="served 1\n", notes=[STOPPING])
+    options = [option.replace("%S", str(mltx.folder)) for option in options]
+    for number in (1, 2):
+        with held(mltx).serve(*options, "-v", limit=None, admin=free_address()) as server, served(server) as peer:
+            server.limit = 2**63 - 1
+            said = [server.first_line() for _ in range(3)]
+            match("^mltx: server [0-9]+$", said[2])
+            says(peer, "begin", f"begun {number}", "up 1 1", "done", "commit", f"committed {number}")
+            says(peer, "begin", f"begun {number + 1}")
+            server.process.send_signal(signal.SIGTERM)
+            expect(server.end(said=""), out="served 1\n", notes=[STOPPING])
+        same((mltx.folder / "mltx/base").read_text(), f"counter 1 {number}\n# commits 1\n", "what is saved")
+
+
+@test(seconds=1)
+def server_with_few_descriptors(mltx: Program) -> None:
+    """It serves a client and answers its operator at the same time, or does not start."""
+    limited, starts = mltx.folder / "limited", list[int]()
+    for most in range(6, 15):
+        limited.write_text(f'#!/bin/sh\nulimit -n {most}\nexec {mltx.path} "$@"\n')
+        limited.chmod(0o755)
+        options = ("-v", "--endless", "--trace", "trace", "--save", "saved")
+        with held(Program(limited, mltx.folder)).serve(*options, limit=None, admin=free_address()) as server:
+            if server.first_line() == "mltx: 13 Io\n":
+                match(f"^mltx: [^ ]+: {re.escape(of_system(errno.EMFILE))}$", server.first_line())
+                same(server.process.wait(SLACK), 1, "the status")
+                continue
+            starts.append(most)
+            with takes(0, SLACK, f"both answers of a server with {most} descriptors"), server.connect() as peer:
+                says(peer, "begin", "begun 1")
+                same(counts(server, "sessions"), {"sessions": 1}, f"what an operator is told of a server with {most} descriptors")
+    holds(starts and set(starts) == set(range(starts[0], 15)) and starts[0] > 8, f"it starts with {starts} descriptors")
 
 
 def uses_memory_up(peer: Peer) -> None:
@@ -971,9 +1020,12 @@ def operator_stops_a_server_that_has_no_memory_left(mltx: Program) -> None:
     for most in range(350_000, 600_000, 50_000):
         with mltx.serve("--sessions", 2, limit=9, admin=free_address(), env=mltx.shim(MOST=str(most)), timeout=SLACK) as server:
             with server.connect() as peer:
+                # Meanwhile the threads begin that answer an operator, and keep some memory.
+                time.sleep(0.5)
                 uses_memory_up(peer)
                 time.sleep(0.5)
-                with may_break_off(), suppress(http.client.HTTPException):
+                # A server that refused memory to a session has ended by then.
+                with may_break_off(), suppress(http.client.HTTPException, ConnectionRefusedError):
                     posted(server, "/stop")
                 ended = server.end(is_all_noted=False)
         holds(ended.status in (0, 1) and ended.notes.count(NO_MEMORY) <= 1, f"with {most} bytes: {ended}")
@@ -1038,7 +1090,7 @@ def page_asks_nobody_else(mltx: Program) -> None:
     named = re.findall(r"""(?:src|href|action)\s*=\s*["']?([^"'\s>]*)|url\(([^)]*)\)|(@import|https?:|//[a-z]+\.)""", page)
     holds(all("".join(found).startswith(("data:", "#")) for found in named), f"the page names {named}")
     same([path for path in ("/status", "/sessions", "/waits") if path not in page], [], "what the page does not ask for")
-    words = "mltx mltx … Stop the server Waiting transactions Sessions No client is connected. Numbers"
+    words = "mltx mltx … Save the base Stop the server Waiting transactions Sessions No client is connected. Numbers"
     same(words_of(page), words, "the words")
 
 

@@ -2,6 +2,7 @@
 import errno
 import fcntl
 import os
+import pty
 import resource
 import signal
 import socket
@@ -12,11 +13,13 @@ import threading
 import time
 from collections.abc import Callable, Iterable, Iterator
 from contextlib import contextmanager
+from functools import partial
 from pathlib import Path
+from subprocess import PIPE
 
-from harness import BROKEN, IDLE, LONG_LINE, MANY_BYTES, OPEN_LONG, PATIENCE, ROOT, STOPS, Address, Failed, Peer, Program, Server
-from harness import comes_to_be, cut_for, each, expect, free_address, holds, in_any_order, in_time, lines, listening, match
-from harness import may_break_off, notes_apart, of_system, readable, same, takes, test
+from harness import BROKEN, IDLE, LONG_LINE, MANY_BYTES, OPEN_LONG, PATIENCE, ROOT, STOPS, Address, Failed, Peer, Piped, Program
+from harness import Server, comes_to_be, cut_for, each, expect, free_address, holds, in_any_order, in_time, lines, listening
+from harness import match, may_break_off, notes_apart, of_system, readable, same, takes, test
 from sessions import SILENCE, break_off, says_nothing, send_and_hear_nothing
 from waits import processor_seconds
 
@@ -26,6 +29,7 @@ SLACK = 5
 # How long a transaction may be open, in seconds, where it is cut then.
 OPEN = 3
 TOO_MANY, GAVE_UP = b"error 7 TooManyOpen\n", b"error 14 GaveUp\n"
+NO_SESSION = "the first client was refused, all sessions are taken (TooManyOpen)"
 
 
 def says(peer: Peer, *asked: str) -> None:
@@ -477,7 +481,7 @@ def client_is_refused_while_all_sessions_are_taken(mltx: Program) -> None:
         says(second, "commit", "committed 2", "quit", "bye")
         fourth.socket.close()
         second.socket.close()
-        expect(server.end(), out="served 4\n", notes=[cut_for(3, BROKEN)])
+        expect(server.end(), out="served 4\n", notes=[NO_SESSION, cut_for(3, BROKEN)])
 
 
 def served_after(server: Server) -> Iterator[Peer | None]:
@@ -668,15 +672,18 @@ def server_whose_standard_error_is_full_serves(mltx: Program) -> None:
 # Signals.
 
 
+ASK_TO_END = (signal.SIGTERM, signal.SIGINT, signal.SIGHUP)
+
+
 def held(mltx: Program, before: str = "") -> Program:
-    """The program, started as OPERATING has it start so that signals stop it, by a shell that does this before."""
-    words = match(r"`(env [^`]*) mltx serve ..`", (ROOT / "docs/OPERATING.md").read_text())[1]
-    script = Path(mltx.file("held", f'#!/bin/sh\n{before}\nexec {words} "{mltx.path}" "$@"\n'))
+    """The program, started as where it is installed, so that signals stop it, by a shell that does this before."""
+    start = f'MLTX_PROGRAM="{mltx.path}" exec "{ROOT}/contrib/mltx" "$@"'
+    script = Path(mltx.file("held", f"#!/bin/sh\n{before}\n{start}\n"))
     script.chmod(0o755)
     return Program(script, mltx.folder)
 
 
-@each({f"{it.name.lower()}-stops-a-server": it for it in (signal.SIGTERM, signal.SIGINT)}, seconds=1)
+@each({f"{it.name.lower()}-stops-a-server": it for it in ASK_TO_END}, seconds=1)
 def signal_stops_a_server(mltx: Program, number: signal.Signals) -> None:
     """In order: what is open is taken back, the trace has all, and it tells how many it served. More of them change nothing."""
     trace = mltx.folder / "trace"
@@ -693,7 +700,7 @@ def signal_stops_a_server(mltx: Program, number: signal.Signals) -> None:
 @test(seconds=1)
 def signals_that_do_not_stop_a_server(mltx: Program) -> None:
     """The program alone ends at once. Where it was started with SIGINT ignored, as in the background of a script, it goes on."""
-    for number in (signal.SIGTERM, signal.SIGINT):
+    for number in ASK_TO_END:
         with mltx.serve() as server, server.connect() as peer:
             says(peer, "begin", "begun 1")
             server.process.send_signal(number)
@@ -704,6 +711,64 @@ def signals_that_do_not_stop_a_server(mltx: Program) -> None:
         time.sleep(0.6)
         says(peer, "commit", "committed 1", "quit", "bye")
         expect(server.end(), out="served 1\n")
+
+
+@contextmanager
+def at_terminal(mltx: Program, *options: object) -> Iterator[tuple[Piped, int]]:
+    """A server that is started from a terminal of its own, and the other end of that."""
+    ours, theirs = pty.openpty()
+    words = [mltx.path, "serve", "%s:%d" % free_address(), *map(str, options)]
+    get_terminal = partial(fcntl.ioctl, theirs, termios.TIOCSCTTY, 0)
+    with Piped(words, 0, None, theirs, PIPE, PIPE, preexec_fn=get_terminal, start_new_session=True) as process:
+        os.close(theirs)
+        try:
+            holds(process.stderr.readline().startswith(b"mltx: listening on "), "it does not listen")
+            yield process, ours
+        finally:
+            process.kill()
+            os.close(ours)
+
+
+@test(seconds=3)
+def interrupts_at_a_terminal(mltx: Program) -> None:
+    """One is a stop in order, which a trace that nobody reads holds up for 5 seconds. A second one ends the server at once."""
+    pipe = mltx.folder / "pipe"
+    os.mkfifo(pipe)
+    with at_terminal(held(mltx)) as (process, terminal):
+        os.write(terminal, b"\x03")
+        same((process.wait(2 + SLACK), process.stdout.read()), (0, b"served 0\n"), "the end after one")
+    with open(os.open(pipe, os.O_RDONLY | os.O_NONBLOCK), "rb"), at_terminal(held(mltx), "--trace", pipe) as (process, terminal):
+        address = match(r"127\S+", str(process.args).replace("'", " "))[0].split(":")
+        with Peer(socket.create_connection((address[0], int(address[1])), PATIENCE)) as peer:
+            peer.say_all(lines("begin|up 7 1|commit") * 2_000)
+        os.write(terminal, b"\x03")
+        time.sleep(1)
+        same(process.poll(), None, "the status after one")
+        os.write(terminal, b"\x03")
+        same(process.wait(2), -signal.SIGKILL, "the status after two")
+
+
+@test(seconds=1)
+def terminal_that_closes_stops_a_server(mltx: Program) -> None:
+    with at_terminal(held(mltx)) as (process, terminal):
+        os.dup2(os.open(os.devnull, os.O_RDWR), terminal)
+        same((process.wait(2 + SLACK), process.stdout.read()), (0, b"served 0\n"), "the end")
+
+
+@test(seconds=1)
+def signal_stops_the_first_process_of_a_container(mltx: Program) -> None:
+    """Where one can be had. No signal ends such a process that it does not handle, so each of them has to be noticed."""
+    words = ["unshare", "--pid", "--fork", "--mount-proc", "--kill-child"]
+    if subprocess.run([*words, "true"], capture_output=True).returncode != 0:
+        print("    no process of a container can be had here: how signals stop one is not looked at", flush=True)
+        return
+    script = held(mltx).path
+    for number in ASK_TO_END:
+        with Piped([*words, script, "serve", "%s:%d" % free_address()], 0, None, subprocess.DEVNULL, PIPE, PIPE) as process:
+            holds(process.stderr.readline().startswith(b"mltx: listening on "), "it does not listen")
+            first = Path(f"/proc/{process.pid}/task/{process.pid}/children").read_text()
+            os.kill(int(first), number)
+            same((process.wait(2 + SLACK), process.stdout.read()), (0, b"served 0\n"), f"the end by {number.name}")
 
 
 @test(seconds=1)

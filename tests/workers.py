@@ -110,8 +110,8 @@ def scripts_give_up_with_their_tries_spent(mltx: Program) -> None:
 
 @test(seconds=1)
 def transfers_over_four_accounts_seldom_give_up(mltx: Program) -> None:
-    """Eight clients by eight workers, each with transfers that look at both accounts first: at most one gives up for one that
-    commits, and no money is lost."""
+    """Eight clients by eight workers, each with transfers that look at both accounts first: at most one gives up for a hundred
+    that commit, since a worker pauses before it tries again, and no money is lost."""
     source, clients, scripts = random.Random(1), range(1, 9), 500
     opened = "|".join(f"open {account}|deposit {account} 1000000" for account in range(1, 5))
     transfers = [
@@ -120,12 +120,12 @@ def transfers_over_four_accounts_seldom_give_up(mltx: Program) -> None:
         for one, other in (source.sample(range(1, 5), 2) for _ in range(scripts))
     ]
     given = lines(f"begin 0|{opened}|commit") + "".join(transfers)
-    ran = mltx.run("run", "--workers", 8, "-", given=given, env=mltx.shim(NO_NAPS="1"))
+    ran = mltx.run("run", "--workers", 8, "-", given=given)
     same((ran.status, ran.err), (0, b""), "run")
     ends = [told[-1].split()[0] for client, told in outcomes(ran.out) if client != "0"]
     same(len(ends), len(clients) * scripts, "how many scripts ended")
     gave_up, committed = ends.count("aborted"), ends.count("committed")
-    holds(gave_up <= committed, f"{gave_up} gave up, {committed} committed")
+    holds(100 * gave_up <= committed, f"{gave_up} gave up, {committed} committed")
     money = [int(line.split()[2]) for line in ran.out.decode().splitlines() if line.startswith("account ")]
     # The script that opens the accounts is one of those that may give up, and then there is none.
     opening = next(told[-1].split()[0] for client, told in outcomes(ran.out) if client == "0")
