@@ -7,10 +7,10 @@ use Rattle.mlt_cli.specs.declared.words.{Connections.Connections, Connections.Th
 abbrev pub AreWithinDay : Times → Type 0
 AreWithinDay times = (times.idle ≤ 86400) × (times.wait ≤ 86400) × (times.transaction ≤ 86400)
 
--- a limit is from 1 to a million
+-- a limit is from 1 to a million, and of clients at once from 1 to a hundred thousand
 abbrev pub IsWithinLimit : Connections → Type 0
 IsWithinLimit (Limit limit) = (0 < limit) × (limit ≤ 1000000)
-IsWithinLimit Endless = Unit {0}
+IsWithinLimit (Endless clients) = (0 < clients) × (clients ≤ 100000)
 
 -- the numbers of a job are within their bounds
 abbrev pub IsWithinBounds : Job → Type 0

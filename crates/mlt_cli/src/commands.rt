@@ -219,7 +219,7 @@ const CHECK_ROWS: &[Row] = &[
     ),
 ];
 
-// `--limit` has no default value: what is found then tells whether it stands beside `--endless`.
+// `--limit`, `--clients` and `--open` have no default value: what is found then tells whether they stand beside `--endless`.
 const SERVE_ROWS: &[Row] = &[
     Row::Input(
         "ADDR",
@@ -244,6 +244,14 @@ const SERVE_ROWS: &[Row] = &[
         "Accept connections without limit, and keep no history in memory; not with --limit",
     ),
     Row::Number(
+        "clients",
+        "N",
+        "Let up to N clients be connected with --endless, 1 to 100000 [default: 10000]",
+        1,
+        100_000,
+        "",
+    ),
+    Row::Number(
         "limit",
         "N",
         "Exit after N connections, 1 to 1000000 [default: 1]",
@@ -254,7 +262,7 @@ const SERVE_ROWS: &[Row] = &[
     Row::Number(
         "sessions",
         "N",
-        "Serve up to N connections at a time, 1 to 64",
+        "Serve up to N connections at a time, or with --endless transactions, 1 to 64",
         1,
         64,
         "8",
@@ -262,7 +270,7 @@ const SERVE_ROWS: &[Row] = &[
     Row::Choice(
         "full",
         "FULL",
-        "Let new clients wait, or refuse them, while all sessions are taken",
+        "Let new clients wait, or refuse them, while all sessions, or --clients, are taken",
         FULL_NAMES,
         "wait",
     ),
@@ -279,10 +287,10 @@ const SERVE_ROWS: &[Row] = &[
     Row::Number(
         "open",
         "SECONDS",
-        "Close connections whose transaction is open for SECONDS, up to 86400; 0 = never",
+        "Close connections whose transaction is open for SECONDS, up to 86400; 0 = never [default: 0, or 60 with --endless]",
         0,
         86_400,
-        "0",
+        "",
     ),
     Row::Number(
         "idle",

@@ -86,8 +86,9 @@ pub struct Check {
 pub enum Connections {
     /// So many, from 1 to 1,000,000.
     Limit(u32),
-    /// As many as come: neither what they were told nor what was done is kept.
-    Endless,
+    /// As many as come: neither what they were told nor what was done is kept. So many clients, from 1 to 100,000, may be connected at
+    /// once; 10,000 where none is said.
+    Endless(u64),
 }
 
 /// After how many seconds a server gives up, each from 0 to 86,400. 0 is never, also where none is said.
@@ -97,14 +98,15 @@ pub struct Times {
     pub idle: u64,
     /// After how many seconds an operation that waits gets `GaveUp`.
     pub wait: u64,
-    /// After how many seconds the session of an open transaction is closed.
+    /// After how many seconds the session of an open transaction is closed: 60, where connections are without end and none is said.
     pub transaction: u64,
 }
 
-/// What a client finds while all sessions are taken, by its name.
+/// What a client finds while all sessions are taken, or, where connections are without end, as many clients are connected as may be, by its
+/// name.
 #[derive(Clone, Copy, PartialEq, Eq)]
 pub enum Full {
-    /// It waits until a session ends.
+    /// It waits until there is room.
     Wait,
     /// It gets `TooManyOpen`, and its connection is closed.
     Refuse,
@@ -158,6 +160,8 @@ enum NoJob {
     Word,
     // Connections are to be without end, and limited too.
     EndlessAndLimited,
+    // So many clients are to be connected at once, of connections with an end.
+    ClientsWithoutEndless,
     // There is to be a folder of all data, and one of its files elsewhere.
     DataElsewhere,
 }
@@ -177,6 +181,10 @@ impl NoJob {
             NoJob::EndlessAndLimited => command.error(
                 ErrorKind::ArgumentConflict,
                 "the argument '--endless' cannot be used with '--limit <N>'",
+            ),
+            NoJob::ClientsWithoutEndless => command.error(
+                ErrorKind::ArgumentConflict,
+                "the argument '--clients <N>' cannot be used without '--endless'",
             ),
             NoJob::DataElsewhere => command.error(
                 ErrorKind::ArgumentConflict,
@@ -283,7 +291,7 @@ fn serve_found(alloc: Global, found: &ArgMatches<'_>) -> Result<Job, NoJob>
     let sessions = number_found(found, "sessions", 1, 64)?;
     let connections = connections_found(found)?;
     let tries = number_found(found, "tries", 1, 1_000_000)?;
-    let times = times_found(found)?;
+    let times = times_found(found, usual_open(&connections))?;
     let full = full_found(found)?;
     Ok(Job::Serve(Serve {
         run: run_found(alloc, found)?,
@@ -300,9 +308,16 @@ fn serve_found(alloc: Global, found: &ArgMatches<'_>) -> Result<Job, NoJob>
 fn connections_found(found: &ArgMatches<'_>) -> Result<Connections, NoJob>
     ensures { IfOk result IsWithinLimit }
 {
-    match (found.get_flag("endless"), found.get_str("limit")) {
+    let is_endless = found.get_flag("endless");
+    if !is_endless && found.get_str("clients").is_some() {
+        return Err(NoJob::ClientsWithoutEndless);
+    }
+    match (is_endless, found.get_str("limit")) {
         (true, Some(_)) => Err(NoJob::EndlessAndLimited),
-        (true, None) => Ok(Connections::Endless),
+        (true, None) => {
+            let clients = number_or(found, "clients", 1, 100_000, 10_000)?;
+            Ok(Connections::Endless(clients))
+        }
         (false, Some(_)) => {
             let limit = number_found(found, "limit", 1, 1_000_000)?;
             Ok(Connections::Limit(limit as u32))
@@ -311,13 +326,24 @@ fn connections_found(found: &ArgMatches<'_>) -> Result<Connections, NoJob>
     }
 }
 
-fn times_found(found: &ArgMatches<'_>) -> Result<Times, NoJob>
+// After how many seconds the session of an open transaction is closed where none is said.
+fn usual_open(connections: &Connections) -> u64
+    ensures { result ≤ 86400 }
+{
+    match connections {
+        Connections::Endless(_) => 60,
+        Connections::Limit(_) => 0,
+    }
+}
+
+fn times_found(found: &ArgMatches<'_>, usual_open: u64) -> Result<Times, NoJob>
+    requires { usual_open ≤ 86400 }
     ensures { IfOk result AreWithinDay }
 {
     Ok(Times {
         idle: number_found(found, "idle", 0, 86_400)?,
         wait: number_found(found, "wait", 0, 86_400)?,
-        transaction: number_found(found, "open", 0, 86_400)?,
+        transaction: number_or(found, "open", 0, 86_400, usual_open)?,
     })
 }
 
@@ -361,6 +387,23 @@ fn number_found(found: &ArgMatches<'_>, id: &str, least: u64, most: u64) -> Resu
     match found.get_one::<u64>(id) {
         Some(number) if least <= number && number <= most => Ok(number),
         _ => Err(NoJob::Word),
+    }
+}
+
+// The number that an option gives, which lies within these bounds, or the usual one where it is not given.
+fn number_or(
+    found: &ArgMatches<'_>,
+    id: &str,
+    least: u64,
+    most: u64,
+    usual: u64,
+) -> Result<u64, NoJob>
+    requires { (least ≤ usual) × (usual ≤ most) }
+    ensures { IfOk result (λ number. (least ≤ number) × (number ≤ most)) }
+{
+    match found.get_str(id) {
+        Some(_) => number_found(found, id, least, most),
+        None => Ok(usual),
     }
 }
 

@@ -4,31 +4,49 @@ ghost use Rattle.std.specs.Prelude.{◌≡◌, ◌≤◌, ◌+◌, ◌-◌, ◌^
 ghost use Rattle.mlt_serve.specs.Endings.{is_limit, result_of_accepting};
 
 use crate::door::Door;
+use crate::lobby::Lobby;
+use crate::options::ServeOptions;
 use crate::service::Service;
-use crate::tuning::ACCEPT_PAUSE_MILLISECONDS;
+use crate::tuning::{ACCEPT_PAUSE_MILLISECONDS, ROOM_PAUSE_MILLISECONDS};
 use crossbeam_channel::Sender;
-use mlt_serve_connections::Accepted;
+use mlt_serve_connections::{Accepted, SocketState, make_ready};
 use mlt_serve_seats::{ListenerEnd, Note, Notes};
 use mlt_types::{Pseudo, Refusal};
 use mlt_work_desk::MadeWith;
 use std::alloc::Global;
 use std::io::Write;
 use std::net::{Shutdown, TcpStream};
-use std::sync::Wait;
+use std::sync::{Arc, Wait};
 use std::thread;
-use std::time::{Clock, Duration};
+use std::time::{Clock, Duration, Instant};
 
 /// What a client hears that is refused since all session threads serve others.
 const TOO_MANY: &[u8] = b"error 7 TooManyOpen\n";
 
-/// A connection that was accepted.
+/// What a client keeps from one session to the next.
+#[derive(Drop)]
+pub(crate) struct Remains {
+    /// What is left of what was read.
+    pub(crate) socket: SocketState,
+    /// Whether the next transaction begins with a pause, since the last one gave up.
+    pub(crate) is_to_pause: bool,
+    /// The timestamp that the next transaction keeps, if it does.
+    pub(crate) timestamp: Option<u64>,
+}
+
+/// A connection that was accepted, with all that belongs to its client between two sessions.
 #[derive(Drop)]
 pub(crate) struct Connection {
     /// How many there were before, with those that have loaded the base.
     pub(crate) before: u64,
     /// Its number, from 1: 1, 2, 3 and so on, and 1 again after 4,294,967,295.
     pub(crate) client: u32,
-    pub(crate) stream: TcpStream,
+    /// When it was accepted, if a clock could say so.
+    pub(crate) since: Option<Instant>,
+    /// Since when it waits for a session thread, if it does, and a clock could say so.
+    pub(crate) queued_since: Option<Instant>,
+    pub(crate) stream: Arc<TcpStream>,
+    pub(crate) remains: Remains,
     ghost numbered: { client ≡ before % (2 ^ 32 - 1) + 1 },
 }
 
@@ -68,14 +86,26 @@ impl Accepting {
     }
 }
 
+/// Where connections go that are accepted.
+#[derive(Drop)]
+pub(crate) enum Destination<'a> {
+    /// To the session threads.
+    Queue(Sender<Connection, Global>),
+    /// To the lobby.
+    Lobby(&'a Lobby<'a>),
+}
+
 /// One that accepts connections, and whether accepts are failing.
 #[derive(Drop)]
 struct Acceptor<'a, R: Wait + Clock> {
     rt: &'a R,
+    alloc: Global,
     door: &'a Door<'a>,
     notes: &'a Notes,
-    /// With how many inside others are refused, if they are.
-    most_inside: Option<u64>,
+    options: &'a ServeOptions,
+    destination: Destination<'a>,
+    /// How many may be inside.
+    most_inside: u64,
     /// Whether the last accept failed.
     is_failing: bool,
     /// Whether it was for want of descriptors or buffers.
@@ -91,6 +121,7 @@ impl<'a, R: Wait + Clock> Acceptor<'a, R> {
         ensures { IfErr result (λ ended. is_limit ended ≡ false) }
     {
         for _ in self.rt.forever() {
+            self.wait_for_room();
             let accepted = self.door.accept();
             if let Some(ended) = self.ended(&accepted) {
                 return Err(ended);
@@ -133,16 +164,33 @@ impl<'a, R: Wait + Clock> Acceptor<'a, R> {
         }
         self.is_failing = false;
         self.is_pausing = false;
-        match self.most_inside {
-            Some(most) => self.door.inside() < most,
-            None => true,
+        !self.options.refuses || self.has_room()
+    }
+
+    /// Whether fewer are inside than may be.
+    fn has_room(&self) -> bool {
+        self.door.inside() < self.most_inside
+    }
+
+    /// Waits until there is room, unless clients are refused where there is none, or until no more are let in.
+    fn wait_for_room(&self) {
+        for _ in self.rt.forever() {
+            let is_over = self.door.stops() || self.door.is_short();
+            if self.options.refuses || self.has_room() || is_over {
+                return;
+            }
+            thread::sleep(self.rt, Duration::from_millis(ROOM_PAUSE_MILLISECONDS));
         }
     }
 
-    /// A client is refused since all sessions are taken. The first is logged.
+    /// A client is refused since as many are inside as may be. The first is logged.
     fn refuse(&self, stream: TcpStream) {
         if self.door.count_refused() == 0 {
-            self.notes.tell(self.rt, Note::NoSession);
+            let note = match self.destination {
+                Destination::Lobby(_) => Note::NoPlace(self.most_inside),
+                Destination::Queue(_) => Note::NoSession,
+            };
+            self.notes.tell(self.rt, note);
         }
         turn_away(stream);
     }
@@ -166,12 +214,7 @@ impl<'a, R: Wait + Clock> Acceptor<'a, R> {
     }
 
     /// Accepts as many as the limit says, and sends each on as it comes. So many connections have loaded the base before.
-    fn accept_all(
-        &mut self,
-        connections: &Sender<Connection, Global>,
-        loaded: u32,
-        limit: u64,
-    ) -> (u64, ListenerEnd)
+    fn accept_all(&mut self, loaded: u32, limit: u64) -> (u64, ListenerEnd)
         ensures few { result.0 ≤ limit }
         ensures whole { is_limit result.1 ≡ true → result.0 ≡ limit }
     {
@@ -181,7 +224,7 @@ impl<'a, R: Wait + Clock> Acceptor<'a, R> {
                 Err(ended) => return (taken, ended),
             };
             let before = taken.saturating_add(u64::from(loaded));
-            if let Err(ended) = self.send_on(connections, before, stream) {
+            if let Err(ended) = self.send_on(before, stream) {
                 return (taken, ended);
             }
             self.warn(taken + 1, limit);
@@ -193,23 +236,42 @@ impl<'a, R: Wait + Clock> Acceptor<'a, R> {
     ///
     /// # Errors
     /// `Memory`, where the sending was refused.
-    fn send_on(
-        &self,
-        connections: &Sender<Connection, Global>,
-        before: u64,
-        stream: TcpStream,
-    ) -> Result<(), ListenerEnd>
+    fn send_on(&self, before: u64, stream: TcpStream) -> Result<(), ListenerEnd>
         ensures { IsOkUnless result ListenerEnd.Memory }
     {
+        let parks = matches!(self.destination, Destination::Lobby(_));
+        make_ready(&stream, self.options.idle, parks);
+        let now = Instant::now(self.rt).ok();
+        let stream = match Arc::new(self.alloc, stream) {
+            Ok(stream) => stream,
+            Err(_) => return Err(ListenerEnd::Memory),
+        };
         self.door.count_accepted();
         let connection = Connection {
             before,
             client: number_of(before),
+            since: now,
+            queued_since: now,
             stream,
+            remains: Remains {
+                // One that is parked is idle from now on, if that has an end.
+                socket: SocketState::new(
+                    Vec::new(self.alloc),
+                    now.filter(|_| parks && self.options.idle.is_some()),
+                ),
+                is_to_pause: false,
+                timestamp: None,
+            },
         };
-        match connections.send(self.rt, connection) {
-            Ok(()) => Ok(()),
-            Err(_) => Err(ListenerEnd::Memory),
+        match &self.destination {
+            Destination::Queue(to) => match to.send(self.rt, connection) {
+                Ok(()) => Ok(()),
+                Err(_) => Err(ListenerEnd::Memory),
+            },
+            Destination::Lobby(lobby) => {
+                lobby.park(self.rt, connection);
+                Ok(())
+            }
         }
     }
 
@@ -237,13 +299,15 @@ fn turn_away(stream: TcpStream) {
     let _ = stream.shutdown(Shutdown::Write);
 }
 
-/// Accepts as many connections as the limit says, numbers them behind those that have loaded the base, and sends each on as it comes, to so many session threads. It accepts no
-/// more once an accept has failed by the listener, a sending was refused, a session was refused a growth, or the server is to stop. Then
-/// clients are refused from now on, and a log message says why. What it has accepted it has sent on, unless that was refused.
+/// Accepts as many connections as the limit says, numbers them behind those that have loaded the base, and sends each on as it comes, to so
+/// many session threads or to the lobby. It accepts no more once an accept has failed by the listener, a sending was refused, a session was
+/// refused a growth, or the server is to stop. Then clients are refused from now on, and a log message says why. What it has accepted it has
+/// sent on, unless that was refused.
 pub(crate) fn accept_all<P: Pseudo, L: MadeWith<P>, R: Wait + Clock>(
     rt: &R,
+    alloc: Global,
     service: &Service<'_, P, L>,
-    connections: Sender<Connection, Global>,
+    destination: Destination<'_>,
     threads: usize,
     loaded: u32,
 ) -> Accepting
@@ -257,16 +321,27 @@ pub(crate) fn accept_all<P: Pseudo, L: MadeWith<P>, R: Wait + Clock>(
         options,
         ..
     } = service;
+    let most_inside = match destination {
+        Destination::Lobby(_) => options.clients,
+        Destination::Queue(_) if options.refuses => threads as u64,
+        Destination::Queue(_) => u64::MAX,
+    };
     let mut acceptor = Acceptor {
         rt,
+        alloc,
         door,
         notes,
-        most_inside: options.refuses.then_some(threads as u64),
+        options,
+        destination,
+        most_inside,
         is_failing: false,
         is_pausing: false,
     };
-    let (accepted, ended) = acceptor.accept_all(&connections, loaded, options.connections);
+    let (accepted, ended) = acceptor.accept_all(loaded, options.connections);
     door.close();
+    if let Some(lobby) = service.lobby {
+        lobby.expect_no_more();
+    }
     notes.tell(rt, Note::AcceptEnded(ended));
     Accepting {
         connections: accepted,

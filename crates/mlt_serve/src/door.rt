@@ -1,6 +1,6 @@
 //! Where connections come in.
 
-use mlt_serve_connections::{Accepted, accept, refuse_all};
+use mlt_serve_connections::{Accepted, accept, refuse_all, widen_backlog};
 use std::net::{SocketAddr, TcpListener};
 use std::sync::atomic::{AtomicBool, AtomicU64, Ordering};
 
@@ -14,7 +14,7 @@ pub(crate) struct Door<'a> {
     is_short: AtomicBool,
     /// How many connections were accepted.
     accepted: AtomicU64,
-    /// How many of these a session thread has taken.
+    /// How often a session thread has taken one of these.
     taken: AtomicU64,
     /// How many of these have ended.
     ended: AtomicU64,
@@ -39,6 +39,11 @@ impl<'a> Door<'a> {
     /// The address of the listener, if the system could say so.
     pub(crate) fn address(&self) -> Option<SocketAddr> {
         self.listener.local_addr().ok()
+    }
+
+    /// From now on more clients may wait to come in.
+    pub(crate) fn widen(&self) {
+        widen_backlog(self.listener);
     }
 
     /// The next connection, once there is one.
@@ -104,10 +109,14 @@ impl<'a> Door<'a> {
         self.accepted.load(Ordering::SeqCst)
     }
 
-    /// How many of these wait to be taken.
+    /// How often a session thread has taken one.
+    pub(crate) fn taken(&self) -> u64 {
+        self.taken.load(Ordering::SeqCst)
+    }
+
+    /// How many wait to be taken, where each is taken once.
     pub(crate) fn queued(&self) -> u64 {
-        let taken = self.taken.load(Ordering::SeqCst);
-        self.accepted().saturating_sub(taken)
+        self.accepted().saturating_sub(self.taken())
     }
 
     /// How many of these have not ended.

@@ -15,6 +15,7 @@ use crate::operating::{BaseFile, BaseSource, EndSignal, Operating, TraceFile};
 use crate::options::ServeOptions;
 use crate::serving::{Ended, serve_with};
 use crate::tallying::tally_of;
+use mio::Poll;
 use mlt_manager::Manager;
 use mlt_serve_seats::ListenerEnd;
 use mlt_serve_session::Tally;
@@ -67,6 +68,7 @@ pub fn serve_endless<P: Pseudo + Drop + Send, R, N, T, S, F, B>(
     options: &ServeOptions,
     operating: Operating<'_, N, T, S, F>,
     base: B,
+    poll: Poll,
 ) -> Result<ServedEndless<P, B>, Refusal>
 where
     R: Threads + Wait + Clock + Sync + Send + Copy + 'static,
@@ -129,6 +131,7 @@ where
         operating,
         base,
         true,
+        Some(poll),
     )?;
     match tally_of(accepting, loaded, gathered, options.connections, &manager) {
         Ok(tally) => Ok(ServedEndless {

@@ -13,6 +13,7 @@ mod endless;
 mod gathering;
 mod guarded_desk;
 mod loader;
+mod lobby;
 mod operating;
 mod operator;
 mod options;

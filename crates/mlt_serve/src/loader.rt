@@ -8,7 +8,7 @@ use crate::door::Door;
 use crate::operating::{BaseSource, LoadFailure, Piece};
 use crate::service::Service;
 use crate::session_thread::SessionThread;
-use mlt_serve_session::Receipts;
+use mlt_serve_session::{LineSource, Receipts};
 use mlt_types::Pseudo;
 use mlt_work_desk::MadeWith;
 use std::alloc::Global;
@@ -33,6 +33,10 @@ impl Read for PieceLines<'_> {
         }
         self.lines.read(buf)
     }
+}
+
+impl LineSource for PieceLines<'_> {
+    fn pause(&mut self, _held: &[u8]) {}
 }
 
 impl<P: Pseudo, L: MadeWith<P>, K: Receipts + Drop> SessionThread<P, L, K> {
@@ -89,13 +93,23 @@ impl<P: Pseudo, L: MadeWith<P>, K: Receipts + Drop> SessionThread<P, L, K> {
             × IsHeard client piece.now.lines.items piece.now.answers.items own
             × (K.receipts self.new.outcomes ≡ K.receipts self.old.outcomes ++ own) }
     {
-        let admission = service.admission(rt, service.seats.seat(0));
+        let admission = service.loading(rt);
         let mut reader = PieceLines {
             lines: piece.lines.as_slice(),
             door: service.door,
         };
-        let ended = self.serve(rt, alloc, service, &admission, client, &mut reader, answers);
+        let ended = self.serve(
+            rt,
+            alloc,
+            service,
+            &admission,
+            client,
+            &mut None,
+            &mut reader,
+            answers,
+        );
         admission.close();
+        self.connections = self.connections.saturating_add(1);
         if ended.is_err() {
             return false;
         }

@@ -33,6 +33,9 @@ const OUTCOME_BYTES: u64 = size_of::<Outcome>() as u64;
 
 const OPERATION_BYTES: u64 = size_of::<Done>() as u64;
 
+/// How many sessions are listed at most.
+const MOST_ROWS: usize = 1_000;
+
 /// What an operator sees, and can do.
 #[derive(Drop)]
 pub(crate) struct Operator<'a, 'b, 'c, 'd, P: Pseudo, L: MadeWith<P>, R: Wait + Clock, F> {
@@ -122,7 +125,15 @@ impl<'a, 'b, 'c, 'd, P: Pseudo, L: MadeWith<P>, R: Wait + Clock, F: BaseFile> Op
         next
     }
 
-    fn counts(&self, statistics: &DeskStatistics, sessions: usize, now: Option<Instant>) -> Counts {
+    /// How many clients are connected to a server without an end, or else so many, that session threads serve.
+    fn clients(&self, served: usize) -> u64 {
+        match self.service.lobby {
+            Some(_) => self.service.door.inside(),
+            None => served as u64,
+        }
+    }
+
+    fn counts(&self, statistics: &DeskStatistics, sessions: u64, now: Option<Instant>) -> Counts {
         let Service {
             options,
             door,
@@ -139,9 +150,10 @@ impl<'a, 'b, 'c, 'd, P: Pseudo, L: MadeWith<P>, R: Wait + Clock, F: BaseFile> Op
             version: self.admin.version,
             address: door.address(),
             seconds: milliseconds(self.since, now) / 1_000,
-            sessions: sessions as u64,
+            sessions,
             session_threads: running.load(Ordering::SeqCst),
-            queued: door.queued(),
+            queued: self.service.queued(),
+            parked: self.service.parked(),
             connections: door.accepted(),
             refused: door.refused(),
             limit: options.connections,
@@ -168,6 +180,7 @@ impl<'a, 'b, 'c, 'd, P: Pseudo, L: MadeWith<P>, R: Wait + Clock, F: BaseFile> Op
             is_stopping: door.stops(),
             transaction_times: times_view(&times.transactions),
             wait_times: times_view(&times.waits),
+            queue_times: times_view(&times.queues),
         }
     }
 
@@ -193,6 +206,17 @@ impl<P: Pseudo, L: MadeWith<P>, R: Wait + Clock, F: BaseFile> Operated
         for state in &states {
             sessions.push(session_view(alloc, state, now)?)?;
         }
+        if let Some(lobby) = self.service.lobby {
+            let most = MOST_ROWS.saturating_sub(sessions.len());
+            for parked in &lobby.states(self.rt, alloc, most)? {
+                sessions.push(SessionView {
+                    client: parked.client,
+                    address: parked.address,
+                    milliseconds: milliseconds(parked.since, now),
+                    transaction: None,
+                })?;
+            }
+        }
         let mut waits = Vec::new(alloc);
         for wait in &statistics.for_objects {
             let awaited = match wait.timestamp {
@@ -205,7 +229,7 @@ impl<P: Pseudo, L: MadeWith<P>, R: Wait + Clock, F: BaseFile> Operated
             waits.push(wait_view(wait, WaitReason::Page, &states, now))?;
         }
         Ok(ServerView {
-            counts: self.counts(&statistics, states.len(), now),
+            counts: self.counts(&statistics, self.clients(states.len()), now),
             sessions,
             waits,
         })
@@ -256,7 +280,10 @@ impl<P: Pseudo, L: MadeWith<P>, R: Wait + Clock, F: BaseFile> Operated
                 return true;
             }
         }
-        false
+        match self.service.lobby {
+            Some(lobby) => lobby.cut_client(self.rt, client, Cut::Operator),
+            None => false,
+        }
     }
 }
 

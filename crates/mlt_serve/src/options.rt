@@ -21,7 +21,9 @@ pub struct ServeOptions {
     pub wait: Option<Duration>,
     /// For how long a transaction may be open, if that has an end. Then its session is cut.
     pub open: Option<Duration>,
-    /// Whether a client is refused while all session threads serve others. Else it waits.
+    /// How many clients may be connected to a server without an end.
+    pub clients: u64,
+    /// Whether a client is refused that finds as many connected, or else all session threads taken. Else it waits.
     pub refuses: bool,
 }
 

@@ -3,16 +3,20 @@
 ghost use Rattle.std.specs.Prelude.{◌≡◌, None, Some, false, true};
 ghost use Rattle.mlt_work_desk.specs.declared.tries.Tries.TheVariants.{PerOperation};
 
+use crate::accepting::Connection;
 use crate::door::Door;
+use crate::lobby::Lobby;
 use crate::options::ServeOptions;
-use mlt_serve_connections::{Admission, SpinPolicy};
+use crossbeam_channel::Receiver;
+use mlt_serve_connections::{Admission, RunningThread, SpinPolicy, ThreadLimit, lingering_close};
 use mlt_serve_seats::{Cut, Notes, Seat, Seats, Sitting, is_broken};
 use mlt_types::Pseudo;
 use mlt_work_admission::AdmissionQueue;
 use mlt_work_desk::{MadeWith, Shared};
+use std::alloc::Global;
 use std::net::TcpStream;
-use std::sync::Wait;
-use std::sync::atomic::{AtomicBool, AtomicU64};
+use std::sync::atomic::{AtomicBool, AtomicU64, Ordering};
+use std::sync::{Arc, Wait};
 use std::time::{Clock, Duration, Instant};
 
 /// What all sessions work with.
@@ -23,6 +27,8 @@ pub(crate) struct Service<'a, P: Pseudo, L: MadeWith<P>> {
     pub(crate) spin_policy: &'a SpinPolicy,
     pub(crate) options: &'a ServeOptions,
     pub(crate) door: &'a Door<'a>,
+    /// Where connections are parked, if they are.
+    pub(crate) lobby: Option<&'a Lobby<'a>>,
     pub(crate) seats: &'a Seats,
     pub(crate) notes: &'a Notes,
     /// How many session threads run.
@@ -42,14 +48,81 @@ pub(crate) struct Service<'a, P: Pseudo, L: MadeWith<P>> {
 }
 
 impl<P: Pseudo, L: MadeWith<P>> Service<'_, P, L> {
-    /// The way of a session at this seat.
+    /// The way of a session at this seat. It pauses before its first transaction or not.
     pub(crate) fn admission<'b, R: Wait + Clock>(
         &'b self,
         rt: &'b R,
         seat: &'b Seat,
+        is_to_pause: bool,
     ) -> Admission<'b, R> {
         let sitting = Sitting::new(rt, seat, self.is_watched);
-        Admission::new(rt, self.admission_queue, sitting)
+        let thread = RunningThread::new(rt, self.limit());
+        Admission::new(rt, self.admission_queue, sitting, thread, is_to_pause)
+    }
+
+    /// The way of a session that loads the base, which has the first seat, and leaves its thread to nobody.
+    pub(crate) fn loading<'b, R: Wait + Clock>(&'b self, rt: &'b R) -> Admission<'b, R> {
+        let sitting = Sitting::new(rt, self.seats.seat(0), self.is_watched);
+        let thread = RunningThread::new(rt, None);
+        Admission::new(rt, self.admission_queue, sitting, thread, false)
+    }
+
+    /// By what a session leaves its thread to others, if it may.
+    pub(crate) fn limit(&self) -> Option<&ThreadLimit> {
+        self.lobby.map(|lobby| &lobby.limit)
+    }
+
+    /// The next connection that a session thread is to serve, once there is one, unless no more come.
+    pub(crate) fn take<R: Wait>(
+        &self,
+        rt: &R,
+        connections: &Receiver<Connection, Global>,
+    ) -> Option<Connection> {
+        match self.lobby {
+            Some(lobby) => lobby.next(rt, connections),
+            None => connections.recv(rt).ok(),
+        }
+    }
+
+    /// A session thread serves a connection no more.
+    pub(crate) fn give_back(&self) {
+        if let Some(limit) = self.limit() {
+            limit.give_back();
+        }
+    }
+
+    /// Parks a connection. Only where there is a lobby does a session leave one.
+    pub(crate) fn park<R: Wait + Clock>(&self, rt: &R, connection: Connection) {
+        if let Some(lobby) = self.lobby {
+            lobby.park(rt, connection);
+        }
+    }
+
+    /// Closes a connection with its client, here or in the lobby.
+    pub(crate) fn see_out<R: Wait + Clock>(&self, rt: &R, stream: Arc<TcpStream>) {
+        match self.lobby {
+            Some(lobby) => lobby.see_out(rt, stream),
+            None => lingering_close(rt, &stream),
+        }
+    }
+
+    /// A connection has ended that a session thread served.
+    pub(crate) fn count_ended(&self) {
+        self.give_back();
+        self.door.count_ended();
+    }
+
+    /// How many connections wait for a session thread.
+    pub(crate) fn queued(&self) -> u64 {
+        match self.limit() {
+            Some(limit) => limit.queued(),
+            None => self.door.queued(),
+        }
+    }
+
+    /// How many connections are parked.
+    pub(crate) fn parked(&self) -> u64 {
+        self.lobby.map_or(0, |lobby| lobby.parked())
     }
 
     /// Why a connection that was accepted is not to be served any more, if so.

@@ -16,12 +16,14 @@ ghost use Rattle.mlt_serve.specs.Tellings.{HaveBegun, TellsOutcomes};
 use crate::accepting::Accepting;
 use crate::door::Door;
 use crate::gathering::{Gathered, gather, new_threads};
+use crate::lobby::Lobby;
 use crate::operating::{BaseFile, BaseSource, EndSignal, Operating, TraceFile};
 use crate::options::ServeOptions;
 use crate::reporting::outcomes_of;
 use crate::service::Service;
 use crate::session_thread::SessionThread;
 use crate::threads_beside::Ran;
+use mio::{Poll, Registry};
 use mlt_manager::Manager;
 use mlt_script_serial::{Outcome, Outcomes};
 use mlt_serve_connections::{SpinPolicy, session_queue};
@@ -71,6 +73,22 @@ pub(crate) struct Ended<P: Pseudo, K: Receipts, B> {
     pub(crate) manager: Manager<P>,
 }
 
+/// The registry of a poll, if there is one.
+///
+/// # Errors
+/// `OutOfMemory`, where the system has no memory or no descriptor for it.
+fn registry_of(poll: &Option<Poll>) -> Result<Option<Registry>, Refusal>
+    ensures { IsOkUnless result Refusal.OutOfMemory }
+{
+    match poll {
+        Some(poll) => match poll.registry().try_clone() {
+            Ok(registry) => Ok(Some(registry)),
+            Err(_) => Err(Refusal::OutOfMemory),
+        },
+        None => Ok(None),
+    }
+}
+
 /// Loads a base and serves connections on a new manager, by sessions whose outcomes these receipts take. The history is taken out of it as it goes, or
 /// stays in it.
 ///
@@ -87,6 +105,7 @@ pub(crate) fn serve_with<P, L, K, R, N, T, S, F, B>(
     operating: Operating<'_, N, T, S, F>,
     base: B,
     is_endless: bool,
+    poll: Option<Poll>,
 ) -> Result<Ended<P, K, B>, Refusal>
 where
     P: Pseudo + Drop + Send,
@@ -140,14 +159,19 @@ where
     let mut threads = new_threads(alloc, &mut all, &log, &mut writer, options.sessions)?;
     let loader = SessionThread::new(alloc, &mut all, &log, &mut writer);
     let (notes, outlet) = Notes::new(alloc)?;
+    let registry = registry_of(&poll)?;
     let state = LockedState::new(alloc, options.limits, pseudo, book, writer)?;
     let shared = Shared::new(log, state);
+    let door = Door::new(listener);
+    let threads_asked = options.sessions as u64;
+    let lobby = Lobby::new(alloc, registry, &door, &notes, options.idle, threads_asked);
     let service = Service {
         shared: &shared,
         admission_queue: &session_queue(),
         spin_policy: &SpinPolicy::new(rt),
         options,
-        door: &Door::new(listener),
+        door: &door,
+        lobby: if poll.is_some() { Some(&lobby) } else { None },
         seats: &Seats::default(),
         notes: &notes,
         running: &AtomicU64::new(0),
@@ -165,7 +189,9 @@ where
         base,
         loader,
         threads.as_mut_slice(),
+        poll,
     );
+    let ended_there = lobby.close();
     notes.end(rt);
     match ran {
         Ok(ran) => {
@@ -177,7 +203,8 @@ where
                 trace_failure,
             } = ran;
             let mut desks = shared.unlock();
-            let gathered = gather(alloc, &mut all, loader, threads, &mut desks);
+            let mut gathered = gather(alloc, &mut all, loader, threads, &mut desks);
+            gathered.connections = gathered.connections.saturating_add(ended_there);
             let manager = desks.close(&mut all);
             Ok(Ended {
                 base,
@@ -280,6 +307,7 @@ where
         operating,
         base,
         false,
+        None,
     )?;
     match outcomes_of(
         alloc,

@@ -9,24 +9,24 @@ ghost use Rattle.mlt_work_desk.specs.declared.tries.Tries.TheVariants.{PerOperat
 ghost use Rattle.mlt_work_log.specs.Prefixes.{StartsWith};
 ghost use Rattle.mlt_work_log.specs.Seats.{IsOf, IsWriterOf, begun_by, first_items, id_of, past_of};
 
-use crate::accepting::Connection;
+use crate::accepting::{Connection, Remains};
 use crate::guarded_desk::GuardedDesk;
 use crate::service::Service;
 use crossbeam_channel::Receiver;
-use mlt_serve_connections::{Admission, Outside, Socket, SocketFailure, lingering_close};
+use mlt_serve_connections::{Admission, Outside, Socket, SocketFailure};
 use mlt_serve_seats::{Cut, Note, Seat};
-use mlt_serve_session::{Receipts, Summary, session};
+use mlt_serve_session::{LineSource, Receipts, Summary, session};
 use mlt_types::{Pseudo, Refusal};
 use mlt_work_desk::{LockDesk, MadeWith, Tries};
 use mlt_work_log::{HistoryLog, LogSnapshot, LogWriter};
-use std::alloc::{AllocError, Global};
-use std::io::{Read, Write};
+use std::alloc::Global;
+use std::io::Write;
 use std::marker::PhantomData;
 use std::mem;
 use std::net::TcpStream;
+use std::sync::Wait;
 use std::sync::atomic::Ordering;
 use std::sync::ledger::Share;
-use std::sync::{Arc, Wait};
 use std::time::Clock;
 
 /// A session thread, and what it has served so far. Its share of the ledger has two parts: one for itself, and one for the desk that it is
@@ -55,6 +55,17 @@ pub(crate) struct SessionThread<P: Pseudo, L: MadeWith<P>, K: Receipts> {
     ghost told: { TellsOutcomes (first_items snapshot) (K.receipts outcomes) },
     ghost begun: { begun_by snapshot ≡ txs_of (K.receipts outcomes) },
     ghost given: { AreGiven P.bits_of L.tries (K.receipts outcomes) },
+}
+
+/// What became of a session.
+#[derive(Drop)]
+struct HeldSession {
+    /// Why it was cut, if it was.
+    cut: Option<Cut>,
+    /// Whether it was refused memory.
+    is_refused: bool,
+    /// What the next session of its client begins with, if this one has left.
+    remains: Option<Remains>,
 }
 
 impl<P: Pseudo, L: MadeWith<P>, K: Receipts + Drop> SessionThread<P, L, K> {
@@ -95,13 +106,14 @@ impl<P: Pseudo, L: MadeWith<P>, K: Receipts + Drop> SessionThread<P, L, K> {
     ///
     /// # Errors
     /// As those of `session`.
-    pub(crate) fn serve<R: Wait + Clock, I: Read, O: Write>(
+    pub(crate) fn serve<R: Wait + Clock, I: LineSource, O: Write>(
         &mut self,
         rt: &R,
         alloc: Global,
         service: &Service<'_, P, L>,
         admission: &Admission<'_, R>,
         client: u32,
+        timestamp: &mut Option<u64>,
         reader: &mut I,
         writer: &mut O,
     ) -> Result<Summary, Refusal>
@@ -120,14 +132,14 @@ impl<P: Pseudo, L: MadeWith<P>, K: Receipts + Drop> SessionThread<P, L, K> {
             (K.receipts self.old.outcomes) (K.receipts self.new.outcomes)) }
         ensures sees { StartsWith (first_items self.new.snapshot)
             (first_items self.old.snapshot) }
-        ensures connections { self.new.connections ≡ min (self.old.connections + 1) (2 ^ 64 - 1) }
+        ensures connections { self.new.connections ≡ self.old.connections }
         ensures short { self.new.is_short ≡ self.old.is_short }
     {
         let SessionThread {
             share,
             events,
             outcomes,
-            connections,
+            connections: _,
             last,
             is_short: _,
             snapshot,
@@ -139,6 +151,7 @@ impl<P: Pseudo, L: MadeWith<P>, K: Receipts + Drop> SessionThread<P, L, K> {
         let tries = Tries::PerOperation(service.options.tries);
         let mut desk = LockDesk::after(rt, service.shared, admission, mine, seen, tries);
         desk.serve(client);
+        desk.keep_timestamp(*timestamp);
         let mut guarded = GuardedDesk {
             desk,
             refuses_begins: service.refuses_begins,
@@ -148,17 +161,77 @@ impl<P: Pseudo, L: MadeWith<P>, K: Receipts + Drop> SessionThread<P, L, K> {
             desk,
             refuses_begins: _,
         } = guarded;
+        *timestamp = desk.kept_timestamp();
         let (mine, more, seen) = desk.close();
         share.merge(mine);
         *snapshot = seen;
         *events = events.saturating_add(more);
-        *connections = connections.saturating_add(1);
         *last = (*last).max(client);
         ended
     }
 
-    /// Serves a connection at its seat, and then closes it with the client. One that was cut in the queue counts as served. It answers
-    /// whether memory was refused.
+    /// Serves a client at its seat by one session.
+    fn hold_session<R: Wait + Clock>(
+        &mut self,
+        rt: &R,
+        alloc: Global,
+        service: &Service<'_, P, L>,
+        seat: &Seat,
+        client: u32,
+        stream: &TcpStream,
+        remains: Remains,
+    ) -> HeldSession
+        requires { 1 ≤ client }
+        ensures outcomes { GrowsFor (first_items self.new.snapshot) client
+            (K.receipts self.old.outcomes) (K.receipts self.new.outcomes) }
+        ensures connections { self.new.connections ≡ self.old.connections }
+        ensures short { self.new.is_short ≡ false
+            → (self.old.is_short ≡ false) × (result.is_refused ≡ false) }
+    {
+        let Remains {
+            socket: state,
+            is_to_pause,
+            mut timestamp,
+        } = remains;
+        let admission = service.admission(rt, seat, is_to_pause);
+        let may_park = service.lobby.is_some();
+        let Service {
+            spin_policy,
+            options,
+            ..
+        } = service;
+        let socket = Socket::new(rt, stream, spin_policy, options.idle, may_park, state);
+        let ended = self.serve(
+            rt,
+            alloc,
+            service,
+            &admission,
+            client,
+            &mut timestamp,
+            &mut Outside::new(&socket, &admission),
+            &mut Outside::new(&socket, &admission),
+        );
+        let cut = cut_of(ended, socket.failure());
+        let left = socket.close();
+        let is_to_pause = admission.close();
+        let is_refused = cut == Some(Cut::Memory);
+        self.is_short = self.is_short || is_refused;
+        HeldSession {
+            cut: seat.leave(rt).or(cut),
+            is_refused,
+            remains: match left {
+                Some(socket) => Some(Remains {
+                    socket,
+                    is_to_pause,
+                    timestamp,
+                }),
+                None => None,
+            },
+        }
+    }
+
+    /// Serves a connection at its seat by one session. Then it is parked where that has left, and else closed with the client. One that was
+    /// cut in the queue counts as served. It answers whether memory was refused.
     fn seat<R: Wait + Clock>(
         &mut self,
         rt: &R,
@@ -174,41 +247,56 @@ impl<P: Pseudo, L: MadeWith<P>, K: Receipts + Drop> SessionThread<P, L, K> {
             → (self.old.is_short ≡ false) × (result ≡ false) }
     {
         let Connection {
-            before: _,
+            before,
             client,
+            since,
+            queued_since,
             stream,
+            remains,
         } = connection;
-        if let Some(cut) = service.cut_in_queue(&stream) {
-            self.connections = self.connections.saturating_add(1);
-            service.notes.tell(rt, Note::SessionCut(client, cut));
-            return false;
+        seat.take(rt, queued_since);
+        if !remains.socket.has_begun {
+            if let Some(cut) = service.cut_in_queue(&stream) {
+                service.notes.tell(rt, Note::SessionCut(client, cut));
+                self.connections = self.connections.saturating_add(1);
+                service.count_ended();
+                return false;
+            }
         }
-        let Ok((stream, handle)) = shared(alloc, stream) else {
+        let Ok(handle) = stream.clone() else {
             self.is_short = true;
+            service.count_ended();
             return true;
         };
-        seat.enter(rt, client, handle);
-        let admission = service.admission(rt, seat);
-        let socket = Socket::new(rt, &stream, service.spin_policy, service.options.idle);
-        let ended = self.serve(
-            rt,
-            alloc,
-            service,
-            &admission,
-            client,
-            &mut Outside::new(&socket, &admission),
-            &mut Outside::new(&socket, &admission),
-        );
-        let cut = cut_of(ended, socket.failure());
-        socket.close();
-        admission.close();
-        let refused = cut == Some(Cut::Memory);
-        if let Some(cut) = seat.leave(rt).or(cut) {
-            service.notes.tell(rt, Note::SessionCut(client, cut));
+        seat.enter(rt, client, since, handle);
+        let HeldSession {
+            cut,
+            is_refused,
+            remains,
+        } = self.hold_session(rt, alloc, service, seat, client, &stream, remains);
+        match (cut, remains) {
+            (None, Some(remains)) => {
+                service.give_back();
+                let connection = Connection {
+                    before,
+                    client,
+                    since,
+                    queued_since: None,
+                    stream,
+                    remains,
+                };
+                service.park(rt, connection);
+            }
+            (cut, _) => {
+                if let Some(cut) = cut {
+                    service.notes.tell(rt, Note::SessionCut(client, cut));
+                }
+                service.see_out(rt, stream);
+                self.connections = self.connections.saturating_add(1);
+                service.count_ended();
+            }
         }
-        lingering_close(rt, &stream);
-        self.is_short = self.is_short || refused;
-        refused
+        is_refused
     }
 
     /// Serves one connection after the other at a seat, until no more come. Where memory is refused no more are let in.
@@ -222,27 +310,19 @@ impl<P: Pseudo, L: MadeWith<P>, K: Receipts + Drop> SessionThread<P, L, K> {
     ) {
         service.running.fetch_add(1, Ordering::SeqCst);
         let seat = service.seats.seat(number);
+        if let Some(limit) = service.limit() {
+            limit.run();
+        }
         for _ in rt.forever() {
-            let Ok(connection) = connections.recv(rt) else {
+            let Some(connection) = service.take(rt, connections) else {
                 return;
             };
             service.door.count_taken();
-            if self.seat(rt, alloc, service, seat, connection) {
+            if self.seat(&*rt, alloc, &*service, &*seat, connection) {
                 service.door.run_short();
             }
-            service.door.count_ended();
         }
     }
-}
-
-/// Two handles of a connection, which is closed once both are gone.
-fn shared(
-    alloc: Global,
-    stream: TcpStream,
-) -> Result<(Arc<TcpStream>, Arc<TcpStream>), AllocError> {
-    let stream = Arc::new(alloc, stream)?;
-    let handle = stream.clone()?;
-    Ok((stream, handle))
 }
 
 /// Why a session was cut that ended so, where its socket failed so, if it was cut.

@@ -3,7 +3,7 @@
 use crate::ending::DoneSignal;
 use crate::operating::EndSignal;
 use crate::service::{Service, elapsed};
-use crate::tuning::{LOOK_MILLISECONDS, LOOKS_FOR_THREADS, STOP_SECONDS};
+use crate::tuning::{LOOK_MILLISECONDS, LOOKS_FOR_QUEUE, LOOKS_FOR_THREADS, STOP_SECONDS};
 use mlt_serve_seats::{Cut, Note, Patience};
 use mlt_types::Pseudo;
 use mlt_work_desk::MadeWith;
@@ -23,6 +23,10 @@ struct Supervisor<'a, 'b, 'c, P: Pseudo, L: MadeWith<P>, R: Wait + Clock> {
     looks_for_threads: u32,
     /// Which of the warnings it has told.
     has_told: [bool; 6],
+    /// For how many looks clients have waited for a session thread, and none was taken.
+    looks_without_take: u32,
+    /// How many were taken at the last look.
+    taken: u64,
 }
 
 /// Looks after the sessions again and again, until there is nothing left to do.
@@ -42,6 +46,8 @@ pub(crate) fn supervise<P: Pseudo, L: MadeWith<P>, R: Wait + Clock, S: EndSignal
         stops_since: None,
         looks_for_threads: LOOKS_FOR_THREADS,
         has_told: [false; 6],
+        looks_without_take: 0,
+        taken: 0,
     };
     for _ in rt.forever() {
         if signal.is_given() {
@@ -62,6 +68,7 @@ impl<P: Pseudo, L: MadeWith<P>, R: Wait + Clock> Supervisor<'_, '_, '_, P, L, R>
         }
         self.look_after_sessions();
         self.count_threads();
+        self.look_after_queue();
         self.warn();
     }
 
@@ -71,6 +78,21 @@ impl<P: Pseudo, L: MadeWith<P>, R: Wait + Clock> Supervisor<'_, '_, '_, P, L, R>
             if let Some(tx) = seat.look_after(self.rt, &self.patience) {
                 self.service.shared.wake_waiter(self.rt, tx);
             }
+        }
+    }
+
+    /// Tells where clients have waited for a session thread for a second, and none was taken meanwhile.
+    fn look_after_queue(&mut self) {
+        let queued = self.service.queued();
+        let taken = self.service.door.taken();
+        self.looks_without_take = if queued > 0 && taken == self.taken {
+            self.looks_without_take.saturating_add(1)
+        } else {
+            0
+        };
+        self.taken = taken;
+        if self.looks_without_take == LOOKS_FOR_QUEUE && self.service.lobby.is_some() {
+            self.service.notes.tell(self.rt, Note::ClientsWait(queued));
         }
     }
 

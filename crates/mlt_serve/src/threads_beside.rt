@@ -4,14 +4,17 @@
 ghost use Rattle.std.specs.Prelude.{◌≡◌, ◌<◌, [], IfOk, IfSome, IsOkUnless, length, true};
 ghost use Rattle.mlt_serve.specs.Loads.{AreHeard};
 
-use crate::accepting::{Accepting, accept_all};
+use crate::accepting::{Accepting, Connection, Destination, accept_all};
 use crate::ending::DoneSignal;
+use crate::lobby::LobbyKeeper;
 use crate::operating::{BaseFile, BaseSource, EndSignal, Operating, TraceFile};
 use crate::operator::Operator;
 use crate::service::Service;
 use crate::session_thread::SessionThread;
 use crate::supervising::supervise;
 use crate::trace_keeping::TraceKeeper;
+use crossbeam_channel::Receiver;
+use mio::Poll;
 use mlt_serve_seats::{Outlet, write_notes};
 use mlt_serve_session::Receipts;
 use mlt_types::{Pseudo, Refusal};
@@ -36,6 +39,17 @@ pub(crate) struct Ran<P: Pseudo, L: MadeWith<P>, K: Receipts, B> {
     pub(crate) accepting: Accepting,
     /// Why the trace was not written whole, if so.
     pub(crate) trace_failure: Option<io::Error>,
+}
+
+/// Where connections go.
+#[derive(Drop)]
+struct Ways<'a> {
+    /// Where they go once they are accepted.
+    destination: Destination<'a>,
+    /// Where session threads take them.
+    from: Receiver<Connection, Global>,
+    /// What takes them from the lobby to the session threads, if they go there first.
+    parking: Option<LobbyKeeper<'a>>,
 }
 
 /// Starts the thread that writes notes, behind what is unsaid. No thread joins it: if the reader of the notes has stopped, it stays in
@@ -92,6 +106,7 @@ impl<'a, P: Pseudo + Send, L: MadeWith<P> + Send + Sync> Service<'a, P, L> {
         base: B,
         loader: SessionThread<P, L, K>,
         threads: &mut [SessionThread<P, L, K>],
+        poll: Option<Poll>,
     ) -> Result<Ran<P, L, K, B>, Refusal>
         requires some { 0 < length threads.old }
         requires loader { K.receipts loader.outcomes ≡ [] }
@@ -116,10 +131,32 @@ impl<'a, P: Pseudo + Send, L: MadeWith<P> + Send + Sync> Service<'a, P, L> {
             Some(admin) => Some(Operator::new(rt, self, admin, save)),
             None => None,
         };
-        match self.serve_connections(rt, alloc, keeper, signal, &operator, base, loader, threads) {
+        let ran = self.serve_connections(
+            rt, alloc, keeper, signal, &operator, base, loader, threads, poll,
+        );
+        match ran {
             Some(ran) => Ok(ran),
             None => Err(Refusal::OutOfMemory),
         }
+    }
+
+    /// Where connections go, for so many session threads. There is nothing where memory is refused.
+    fn ways(&self, alloc: Global, count: usize, poll: Option<Poll>) -> Option<Ways<'a>> {
+        let (Some(lobby), Some(poll)) = (self.lobby, poll) else {
+            let (to, from) = crossbeam_channel::bounded(alloc, count).ok()?;
+            return Some(Ways {
+                destination: Destination::Queue(to),
+                from,
+                parking: None,
+            });
+        };
+        self.door.widen();
+        let (to, from) = crossbeam_channel::unbounded(alloc).ok()?;
+        Some(Ways {
+            destination: Destination::Lobby(lobby),
+            from,
+            parking: Some(LobbyKeeper::new(alloc, lobby, poll, to).ok()?),
+        })
     }
 
     /// Loads a base and serves connections, with these threads beside those of sessions. There is nothing where the base is not loaded, or
@@ -140,6 +177,7 @@ impl<'a, P: Pseudo + Send, L: MadeWith<P> + Send + Sync> Service<'a, P, L> {
         mut base: B,
         mut loader: SessionThread<P, L, K>,
         threads: &mut [SessionThread<P, L, K>],
+        poll: Option<Poll>,
     ) -> Option<Ran<P, L, K, B>>
         requires some { 0 < length threads.old }
         requires loader { K.receipts loader.outcomes ≡ [] }
@@ -152,7 +190,11 @@ impl<'a, P: Pseudo + Send, L: MadeWith<P> + Send + Sync> Service<'a, P, L> {
         let service = self;
         let ending = &DoneSignal::new();
         let count = threads.len();
-        let (to, from) = crossbeam_channel::bounded(alloc, count).ok()?;
+        let Ways {
+            destination,
+            from,
+            parking,
+        } = self.ways(alloc, count, poll)?;
         let connections = &from;
         thread::scope(
             thread::scope_env(),
@@ -177,6 +219,14 @@ impl<'a, P: Pseudo + Send, L: MadeWith<P> + Send + Sync> Service<'a, P, L> {
                     }
                     None => None,
                 };
+                let parks = parking.is_some();
+                let parking = match parking {
+                    Some(parking) => {
+                        let park = move || parking.keep(rt);
+                        scope.spawn(park).ok()
+                    }
+                    None => None,
+                };
                 let (answering, more) = match operator {
                     Some(operator) => {
                         // With two there are twice as many places for connections.
@@ -188,6 +238,7 @@ impl<'a, P: Pseudo + Send, L: MadeWith<P> + Send + Sync> Service<'a, P, L> {
                 };
                 let all_run = watching.is_some()
                     && keeping.is_some() == keeps
+                    && parking.is_some() == parks
                     && answering.is_some() == operator.is_some();
                 let loaded = if all_run {
                     loader.load(rt, alloc, service, &mut base)
@@ -197,7 +248,14 @@ impl<'a, P: Pseudo + Send, L: MadeWith<P> + Send + Sync> Service<'a, P, L> {
                 service.is_loading.store(false, Ordering::SeqCst);
                 let accepting = match loaded {
                     Some(loaded) => {
-                        let accept = move || accept_all(rt, service, to, count, loaded);
+                        let accept = move || accept_all(
+                            rt,
+                            alloc,
+                            service,
+                            destination,
+                            count,
+                            loaded,
+                        );
                         scope.spawn(accept).ok()
                     }
                     None => None,
@@ -214,8 +272,14 @@ impl<'a, P: Pseudo + Send, L: MadeWith<P> + Send + Sync> Service<'a, P, L> {
                         );
                         Some(accepting.join(rt))
                     }
-                    None => None,
+                    None => {
+                        if let Some(lobby) = service.lobby {
+                            lobby.expect_no_more();
+                        }
+                        None
+                    }
                 };
+                join(rt, parking);
                 if let Some(operator) = operator {
                     operator.end();
                 }

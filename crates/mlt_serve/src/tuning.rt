@@ -10,6 +10,9 @@ pub(crate) const LOOK_MILLISECONDS: u64 = 250;
 /// In how many looks session threads may still begin, some 3 seconds: a busy machine starts them late.
 pub(crate) const LOOKS_FOR_THREADS: u32 = 12;
 
+/// For how many looks clients wait for a session thread until that is told, a second.
+pub(crate) const LOOKS_FOR_QUEUE: u32 = 4;
+
 /// How many items of a history are copied in one hold of the lock, in a microsecond or two. By `looked`.
 pub(crate) const ITEMS_PER_HOLD: usize = 256;
 
@@ -39,3 +42,9 @@ pub(crate) const LEAST_PAUSE_MILLISECONDS: u64 = 10;
 
 /// How many seconds sessions have to end by themselves once the server is to stop. Then they are cut.
 pub(crate) const STOP_SECONDS: u64 = 3;
+
+/// How many parked connections are reported at a time. Nothing measures it.
+pub(crate) const EVENTS_PER_POLL: usize = 256;
+
+/// For how many milliseconds new clients wait where as many are connected as may be, until that is looked at again. Nothing measures it.
+pub(crate) const ROOM_PAUSE_MILLISECONDS: u64 = 10;

@@ -52,6 +52,8 @@ impl Serialize for Counts {
         self.transaction_times.serialize(out)?;
         out.key("wait_times")?;
         self.wait_times.serialize(out)?;
+        out.key("queue_times")?;
+        self.queue_times.serialize(out)?;
         out.end_map()
     }
 }

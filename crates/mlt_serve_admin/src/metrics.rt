@@ -32,13 +32,14 @@ macro_rules! numbers {
 }
 
 // All numbers, in the order in which they are written.
-pub(crate) fn numbers(counts: &Counts) -> [Number; 29] {
+pub(crate) fn numbers(counts: &Counts) -> [Number; 30] {
     numbers! {
         server server gauge "A number that the server drew at random when it started." counts.server;
         seconds uptime_seconds gauge "Seconds since the server began to listen." counts.seconds;
-        sessions sessions gauge "Connections that are being served." counts.sessions;
+        sessions sessions gauge "Clients that are connected to a server without an end, or else served." counts.sessions;
         session_threads session_threads gauge "Threads that serve sessions." counts.session_threads;
-        queued queued_connections gauge "Connections that were accepted and are not served yet." counts.queued;
+        queued queued_connections gauge "Connections that wait for a session thread." counts.queued;
+        parked parked_connections gauge "Connections that are idle with no transaction open, and have no session thread." counts.parked;
         connections connections_total counter "Connections that were accepted." counts.connections;
         refused refused_connections_total counter "Clients that were refused since all sessions were taken." counts.refused;
         limit connection_limit gauge "Connections that the server accepts at most." counts.limit;
@@ -76,6 +77,8 @@ pub(crate) fn metrics_text(alloc: Global, counts: &Counts) -> Result<String, All
     push_times(&mut text, "transaction", words, &counts.transaction_times)?;
     let words = "Seconds for which an operation waited for other transactions.";
     push_times(&mut text, "wait", words, &counts.wait_times)?;
+    let words = "Seconds for which a connection waited for a session thread.";
+    push_times(&mut text, "queue", words, &counts.queue_times)?;
     Ok(text)
 }
 

@@ -73,6 +73,7 @@ svg marker path{fill:var(--wait);stroke:none}
 <div id="graph"><p class="none"></p></div>
 <h2>Sessions</h2>
 <ul id="sessions"></ul>
+<p id="folded" class="none"></p>
 <p id="nobody" class="none" hidden>No client is connected.</p>
 <h2>Numbers</h2>
 <dl id="counts"></dl>
@@ -156,8 +157,10 @@ function showFigures(now, waits) {
 
 function showCounts(now) {
   const rows = {
-    "Sessions": of(now.sessions, now.session_threads),
+    "Clients": count(now.sessions),
+    "Parked": count(now.parked),
     "Queued": count(now.queued),
+    "Session threads": count(now.session_threads),
     "Connections": of(now.connections, now.limit),
     "Refused": count(now.refused),
     "Open transactions": count(now.open),
@@ -203,10 +206,14 @@ function newRow(client) {
   return row;
 }
 
-function showSessions(sessions) {
-  sessions.sort((a, b) => a.client - b.client);
-  const clients = new Set(sessions.map(session => "client-" + session.client));
-  for (const row of [...at("sessions").children]) if (!clients.has(row.id)) row.remove();
+// Of those without a transaction the first 16 are shown.
+function showSessions(listed, clients) {
+  const idle = listed.filter(session => !session.transaction).sort((a, b) => a.client - b.client).slice(0, 16);
+  const sessions = [...listed.filter(session => session.transaction), ...idle].sort((a, b) => a.client - b.client);
+  const folded = Math.max(clients, listed.length) - sessions.length;
+  put(at("folded"), folded > 0 ? "And " + count(folded) + " more." : "");
+  const rows = new Set(sessions.map(session => "client-" + session.client));
+  for (const row of [...at("sessions").children]) if (!rows.has(row.id)) row.remove();
   for (const {client, address, milliseconds, transaction: tx} of sessions) {
     const row = at("client-" + client) || newRow(client);
     const show = (name, text) => put(row.querySelector("." + name), text);
@@ -307,7 +314,7 @@ async function look() {
     at("state").className = document.querySelector("main").className = "";
     showFigures(answers[0], answers[2].waits);
     showCounts(answers[0]);
-    showSessions(answers[1].sessions);
+    showSessions(answers[1].sessions, answers[0].sessions);
     showWaits(answers[2].waits, answers[1].sessions);
   } catch {
     put(at("state"), "The server does not respond. These values are old.");

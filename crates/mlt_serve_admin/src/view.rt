@@ -71,12 +71,14 @@ pub struct Counts {
     pub address: Option<SocketAddr>,
     /// For how many seconds the server has listened.
     pub seconds: u64,
-    /// How many connections are served.
+    /// How many connections are served, or, where they may be parked, how many are there.
     pub sessions: u64,
     /// How many threads serve sessions.
     pub session_threads: u64,
-    /// How many connections are accepted and not yet served.
+    /// How many connections wait for a session thread.
     pub queued: u64,
+    /// How many connections are parked.
+    pub parked: u64,
     /// How many connections were accepted.
     pub connections: u64,
     /// How many clients were refused, which are not among these, since all sessions were taken.
@@ -129,6 +131,8 @@ pub struct Counts {
     pub transaction_times: TimesView,
     /// How long operations waited.
     pub wait_times: TimesView,
+    /// How long connections waited for a session thread.
+    pub queue_times: TimesView,
 }
 
 /// Why a base was not saved.

@@ -3,6 +3,7 @@
 ghost use Rattle.std.specs.Prelude.{◌≡◌};
 ghost use Rattle.mlt_serve_connections.specs.Accepts.{is_among, of_one_connection, of_the_system};
 
+use crate::tuning::BACKLOG;
 use std::io;
 use std::net::{TcpListener, TcpStream};
 use std::os::fd::AsRawFd;
@@ -55,6 +56,12 @@ fn does_pause(code: i32) -> bool
     ensures { result ≡ is_among of_the_system code }
 {
     OF_THE_SYSTEM.contains(&code)
+}
+
+/// From now on more connections may wait for an accept, 4,096 of them if the system lets them.
+pub fn widen_backlog(listener: &TcpListener) {
+    // Where it fails, as many may wait as before.
+    let _ = libc::net::listen(listener.as_raw_fd(), BACKLOG);
 }
 
 /// From now on the listener accepts no connection: a thread that waits in an accept of it fails, and clients are refused.

@@ -1,10 +1,12 @@
 //! The way of one session through the admission queue, and what it waits for before it begins a transaction.
 
 use crate::socket::Socket;
+use crate::thread_limit::RunningThread;
 use crate::tuning::{ANSWERS_PER_TURN, MOST_ADMITTED, MOST_BYPASSING};
 use mlt_event::{Answer, Told};
 use mlt_object_kinds::ObjOp;
 use mlt_serve_seats::Sitting;
+use mlt_serve_session::LineSource;
 use mlt_work_admission::{AdmissionQueue, AdmissionRules, AfterAnswer, PassHolder};
 use mlt_work_waits::{Gate, Notice};
 use std::io;
@@ -28,24 +30,47 @@ pub struct Admission<'a, R: Wait + Clock> {
     holder: PassHolder<'a, R>,
     /// Where others see what it does.
     sitting: Sitting<'a, R>,
+    thread: RunningThread<'a, R>,
 }
 
 impl<'a, R: Wait + Clock> Admission<'a, R> {
-    /// A session that is outside.
+    /// A session that is outside. It pauses before its first transaction, where the last one of its client gave up.
     pub fn new(
         rt: &'a R,
         admission_queue: &'a AdmissionQueue,
         sitting: Sitting<'a, R>,
+        thread: RunningThread<'a, R>,
+        is_to_pause: bool,
     ) -> Admission<'a, R> {
         let holder = PassHolder::new(rt, admission_queue);
-        Admission { holder, sitting }
+        if is_to_pause {
+            holder.pause_next();
+        }
+        Admission {
+            holder,
+            sitting,
+            thread,
+        }
     }
 
-    /// The session ends.
-    pub fn close(self) {
-        let Admission { holder, sitting } = self;
+    /// The session ends. It returns whether the next transaction of its client begins with a pause.
+    pub fn close(self) -> bool {
+        let Admission {
+            holder,
+            sitting,
+            thread,
+        } = self;
+        thread.go_on();
+        let is_to_pause = holder.is_to_pause();
         holder.close();
         sitting.show();
+        is_to_pause
+    }
+
+    /// Leaves, if it is at work, and its thread is going to block.
+    fn block(&self) {
+        self.leave();
+        self.thread.block();
     }
 
     /// Leaves, if it is at work. What it has done until now it shows to others.
@@ -58,7 +83,7 @@ impl<'a, R: Wait + Clock> Admission<'a, R> {
 impl<R: Wait + Clock> Gate for Admission<'_, R> {
     fn begin(&self, _client: u32) {
         if self.holder.is_to_pause() {
-            self.leave();
+            self.block();
             self.holder.pause();
         }
     }
@@ -72,7 +97,7 @@ impl<R: Wait + Clock> Gate for Admission<'_, R> {
         match notice {
             Notice::WaitsForTurn => {
                 self.sitting.rest();
-                self.leave();
+                self.block();
             }
             Notice::IsVictim => self.sitting.deadlock(),
         }
@@ -99,7 +124,7 @@ impl<R: Wait + Clock> Admission<'_, R> {
         self.sitting.note(told);
         match self.holder.count(told) {
             AfterAnswer::GoesOn => (),
-            AfterAnswer::Leaves => self.leave(),
+            AfterAnswer::Leaves => self.block(),
             AfterAnswer::Queues => {
                 self.leave();
                 self.holder.queue();
@@ -125,7 +150,7 @@ impl<'a, R: Wait + Clock> Outside<'a, R> {
 impl<R: Wait + Clock> Read for Outside<'_, R> {
     fn read(&mut self, buf: &mut [u8]) -> io::Result<usize> {
         self.admission.leave();
-        let count = self.socket.read(buf)?;
+        let count = self.socket.read(&self.admission.thread, buf)?;
         if count > 0 {
             self.admission.holder.enter();
         }
@@ -133,10 +158,16 @@ impl<R: Wait + Clock> Read for Outside<'_, R> {
     }
 }
 
+impl<R: Wait + Clock> LineSource for Outside<'_, R> {
+    fn pause(&mut self, held: &[u8]) {
+        self.socket.pause(held);
+    }
+}
+
 impl<R: Wait + Clock> Write for Outside<'_, R> {
     fn write(&mut self, buf: &[u8]) -> io::Result<usize> {
         self.admission.leave();
-        self.socket.write(buf)
+        self.socket.write(&self.admission.thread, buf)
     }
 
     fn flush(&mut self) -> io::Result<()> {

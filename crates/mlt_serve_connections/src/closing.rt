@@ -41,3 +41,18 @@ fn read_away<C: Clock>(clock: &C, stream: &TcpStream) -> io::Result<()> {
     }
     Ok(())
 }
+
+/// Reads away what a client has sent, from a stream that does not wait. It answers whether the client has gone, or counts as gone since
+/// 16,777,216 bytes came at once.
+pub fn read_away_now(stream: &TcpStream) -> bool {
+    let mut reader = stream;
+    let mut buffer = [0; 4096];
+    for _ in 0..MAX_INPUT / 4096 {
+        match reader.read(&mut buffer) {
+            Ok(0) => return true,
+            Ok(_) => (),
+            Err(error) => return error.kind() != ErrorKind::WouldBlock,
+        }
+    }
+    true
+}

@@ -1,17 +1,23 @@
 //! The socket of one client.
 
-ghost use Rattle.std.specs.Prelude.{◌≡◌, IfSome};
+ghost use Rattle.std.specs.Prelude.{◌≡◌, ◌≤◌, IfSome, Ok, length};
 ghost use Rattle.std.specs.Io.{ReadsAtMost, WritesAtMost};
 
 use crate::lines::ends_as_http;
 use crate::spin_policy::SpinPolicy;
-use crate::tuning::READ_SPINS;
+use crate::thread_limit::RunningThread;
+use crate::tuning::{LOOK_MILLISECONDS, READ_SPINS, WRITE_MILLISECONDS};
+use libc::net::{POLLIN, poll};
+use libc::types::pollfd;
 use mlt_text_words::{MOST_LINE_BYTES, find_lf};
-use std::cell::Cell;
+use std::alloc::AllocError;
+use std::cell::{Cell, RefCell};
 use std::hint::spin_loop;
 use std::io;
 use std::io::{ErrorKind, Read, Write};
 use std::net::TcpStream;
+use std::os::fd::AsRawFd;
+use std::sync::Wait;
 use std::time::{Clock, Duration, Instant};
 
 /// How a read or a write failed.
@@ -25,14 +31,39 @@ pub enum SocketFailure {
     Broken,
 }
 
+/// What a connection keeps from one of its sessions to the next.
+#[derive(Drop)]
+pub struct SocketState {
+    /// Whether its first line has come.
+    pub has_begun: bool,
+    /// The bytes behind the last LF, which are not answered: 200 at most.
+    pub tail: Vec<u8>,
+    /// Since when it waits for a line that is answered, if it does, and the wait has an end.
+    pub idle_since: Option<Instant>,
+}
+
+impl SocketState {
+    /// That of a new connection, of which nothing was read. The vector is empty.
+    pub fn new(tail: Vec<u8>, now: Option<Instant>) -> SocketState {
+        SocketState {
+            has_begun: false,
+            tail,
+            idle_since: now,
+        }
+    }
+}
+
 /// A connection on which a read first looks for bytes for some microseconds, so that a client that sends its next line at once finds
 /// its session awake. It looks while there are fewer sessions than processors.
+///
+/// Where its session may leave its thread to others, it does so at a read between two transactions: if threads are short, no bytes come for
+/// some milliseconds, or the first line comes in pieces. Such a read is the last, and tells the end of the input.
 ///
 /// An idle time begins at the first read after an answer was written: bytes that do not make up a line that is answered do not prolong
 /// it. Where a socket has an idle time, a stop of the program interrupts what waits there. It waits on then, for what is left of the
 /// time.
 #[derive(Drop)]
-pub struct Socket<'a, C: Clock> {
+pub struct Socket<'a, C: Wait + Clock> {
     clock: &'a C,
     stream: &'a TcpStream,
     spin_policy: &'a SpinPolicy,
@@ -46,30 +77,52 @@ pub struct Socket<'a, C: Clock> {
     has_begun: Cell<bool>,
     /// How the last one that failed did.
     failed: Cell<Option<SocketFailure>>,
+    /// Whether its session may leave its thread to others.
+    may_park: bool,
+    /// Whether the next read is between two transactions.
+    is_between: Cell<bool>,
+    /// Whether the session has read.
+    has_read: Cell<bool>,
+    /// Whether its session leaves: there is nothing more to read for it.
+    is_parked: Cell<bool>,
+    /// The bytes behind the last LF that was read, as far as the session has told them.
+    tail: RefCell<Vec<u8>>,
+    /// Whether these were read by an earlier session, so that the next read begins with them.
+    has_front: Cell<bool>,
 }
 
-impl<'a, C: Clock> Socket<'a, C> {
-    /// The socket of a client whose session begins. A read or a write that waits longer than the idle time fails, if there is one.
+impl<'a, C: Wait + Clock> Socket<'a, C> {
+    /// The socket of a client whose session begins, as earlier sessions have left it. It was made ready.
     pub fn new(
         clock: &'a C,
         stream: &'a TcpStream,
         spin_policy: &'a SpinPolicy,
         idle: Option<Duration>,
+        may_park: bool,
+        state: SocketState,
     ) -> Socket<'a, C> {
-        // Without this an answer may be held back; where it fails it still comes.
-        let _ = stream.set_nodelay(true);
-        // Where this fails, a wait has no end; an open socket takes it.
-        let _ = set_timeouts(stream, idle);
+        let SocketState {
+            has_begun,
+            tail,
+            idle_since,
+        } = state;
         spin_policy.enter();
+        let has_front = !tail.is_empty();
         Socket {
             clock,
             stream,
             spin_policy,
             idle,
-            since: Cell::new(None),
+            since: Cell::new(idle_since),
             waits: Cell::new(true),
-            has_begun: Cell::new(false),
+            has_begun: Cell::new(has_begun),
             failed: Cell::new(None),
+            may_park,
+            is_between: Cell::new(false),
+            has_read: Cell::new(false),
+            is_parked: Cell::new(false),
+            tail: RefCell::new(tail),
+            has_front: Cell::new(has_front),
         }
     }
 
@@ -85,11 +138,24 @@ impl<'a, C: Clock> Socket<'a, C> {
         }
     }
 
-    /// The session ends. Reads and writes of the stream wait again.
-    pub fn close(self) {
+    /// The session ends. Reads and writes of the stream wait again. Where the session has left, so that another one is to go on, it returns
+    /// what that begins with.
+    pub fn close(self) -> Option<SocketState> {
         // Where this fails, what the client still sends is not waited for.
         let _ = self.put_waits(true);
         self.spin_policy.leave();
+        let Socket {
+            since,
+            has_begun,
+            is_parked,
+            tail,
+            ..
+        } = self;
+        is_parked.get().then_some(SocketState {
+            has_begun: has_begun.get(),
+            tail: tail.into_inner(),
+            idle_since: since.get(),
+        })
     }
 
     /// From now on a read or a write that can't go on at once waits, or it fails.
@@ -116,26 +182,94 @@ impl<'a, C: Clock> Socket<'a, C> {
         None
     }
 
-    /// Reads bytes, once there are some. At first it waits for a whole line, and fails where that is one of an HTTP request.
-    pub fn read(&self, buf: &mut [u8]) -> io::Result<usize>
-        ensures { ReadsAtMost result buf.new }
-    {
-        let read = if self.has_begun.replace(true) {
-            self.read_some(buf)
-        } else {
-            self.read_first(buf)
-        };
-        self.note(&read);
-        read
+    /// The next read is between two transactions. These bytes were read behind the last LF, and are not answered.
+    pub fn pause(&self, held: &[u8]) {
+        if self.may_park {
+            // What an earlier session has read is still to come. Where memory is refused, the session stays.
+            let is_kept = self.has_front.get() || self.put_tail(held).is_ok();
+            self.is_between.set(is_kept);
+        }
     }
 
-    /// Reads until an LF has come, or more bytes than a line may have, or the end of the input.
-    fn read_first(&self, buf: &mut [u8]) -> io::Result<usize>
+    /// Keeps these bytes alone.
+    fn put_tail(&self, bytes: &[u8]) -> Result<(), AllocError> {
+        let Ok(mut tail) = self.tail.try_borrow_mut() else {
+            return Err(AllocError);
+        };
+        tail.clear();
+        tail.extend_from_slice(bytes)
+    }
+
+    /// Puts what an earlier session has read to the front, and returns how many bytes that are.
+    fn take_front(&self, buf: &mut [u8]) -> usize
+        ensures { (result ≤ length buf.new) × (length buf.new ≡ length buf.old) }
+    {
+        if !self.has_front.replace(false) {
+            return 0;
+        }
+        let Ok(mut tail) = self.tail.try_borrow_mut() else {
+            return 0;
+        };
+        let count = tail.len().min(buf.len());
+        buf[..count].copy_from_slice(&tail[..count]);
+        tail.clear();
+        count
+    }
+
+    /// Reads bytes, once there are some. At first it waits for a whole line, and fails where that is one of an HTTP request. Where the
+    /// session leaves, there is nothing more to read, and what has come of a line is kept.
+    pub fn read(&self, thread: &RunningThread<'_, C>, buf: &mut [u8]) -> io::Result<usize>
         ensures { ReadsAtMost result buf.new }
     {
-        let mut held = 0;
+        if self.is_parked.get() {
+            return Ok(0);
+        }
+        let front = self.take_front(buf);
+        let read = if self.has_begun.get() {
+            self.read_behind(thread, buf, front)
+        } else {
+            self.read_first(thread, buf, front)
+        };
+        self.note(&read);
+        self.is_between.set(false);
+        let count = read?;
+        if !self.is_parked.get() {
+            self.has_begun.set(true);
+            return Ok(count);
+        }
+        if count > 0 {
+            self.put_tail(&buf[..count])?;
+        }
+        Ok(0)
+    }
+
+    /// Reads behind so many bytes, and counts them in.
+    fn read_behind(
+        &self,
+        thread: &RunningThread<'_, C>,
+        buf: &mut [u8],
+        front: usize,
+    ) -> io::Result<usize>
+        requires { front ≤ length buf.old }
+        ensures { ReadsAtMost result buf.new }
+    {
+        let count = self.read_some(thread, &mut buf[front..])?;
+        Ok(front + count)
+    }
+
+    /// Reads behind so many bytes until an LF has come, or more bytes than a line may have, or the end of the input.
+    fn read_first(
+        &self,
+        thread: &RunningThread<'_, C>,
+        buf: &mut [u8],
+        front: usize,
+    ) -> io::Result<usize>
+        requires { front ≤ length buf.old }
+        ensures { ReadsAtMost result buf.new }
+    {
+        let mut held = front;
         for _ in 0..=MOST_LINE_BYTES {
-            let count = self.read_some(&mut buf[held..])?;
+            let count = self.read_some(thread, &mut buf[held..])?;
             held += count;
             if let Some(end) = find_lf(&buf[..held]) {
                 if ends_as_http(&buf[..end]) {
@@ -146,25 +280,50 @@ impl<'a, C: Clock> Socket<'a, C> {
             if count == 0 || held > MOST_LINE_BYTES {
                 break;
             }
+            if self.may_park {
+                // The rest of the line is read by another session.
+                self.park()?;
+                break;
+            }
         }
         Ok(held)
     }
 
-    fn read_some(&self, buf: &mut [u8]) -> io::Result<usize>
+    fn read_some(&self, thread: &RunningThread<'_, C>, buf: &mut [u8]) -> io::Result<usize>
         ensures { ReadsAtMost result buf.new }
     {
+        let has_read = self.has_read.replace(true);
+        if has_read && self.is_between.get() && thread.is_short() {
+            return self.park();
+        }
         if self.spin_policy.allows_spinning() && self.put_waits(false).is_ok() {
             if let Some(read) = self.spin(buf) {
                 return read;
             }
         }
+        // A connection was taken since there is something to read.
+        if has_read {
+            thread.block();
+        }
+        let read = self.wait_and_read(buf);
+        thread.go_on();
+        read
+    }
+
+    /// Reads bytes once there are some. Between two transactions it waits for some milliseconds where the session may leave.
+    fn wait_and_read(&self, buf: &mut [u8]) -> io::Result<usize>
+        ensures { ReadsAtMost result buf.new }
+    {
         self.put_waits(true)?;
         let mut stream = self.stream;
-        if self.since.get().is_none() {
-            self.since.set(self.now()?);
+        if self.since.get().is_none() || self.may_park {
+            self.begin_wait()?;
             let read = stream.read(buf);
-            if !is_interrupted(&read) {
+            if !self.is_to_wait(&read) {
                 return read;
+            }
+            if self.is_between.get() {
+                return self.park();
             }
         }
         for _ in 0..u64::MAX {
@@ -178,11 +337,37 @@ impl<'a, C: Clock> Socket<'a, C> {
         Err(io::Error::from(ErrorKind::Interrupted))
     }
 
+    /// The session leaves: this is the end of what it reads.
+    fn park(&self) -> io::Result<usize>
+        ensures { result ≡ Ok 0 }
+    {
+        self.is_parked.set(true);
+        Ok(0)
+    }
+
+    /// It waits from now on, if it did not before.
+    fn begin_wait(&self) -> io::Result<()> {
+        if self.since.get().is_none() {
+            self.since.set(self.now()?);
+        }
+        Ok(())
+    }
+
+    /// Whether what was done is to be tried again: it was interrupted, or has ended by the time after which the session leaves its thread, or
+    /// its thread does not run.
+    fn is_to_wait(&self, done: &io::Result<usize>) -> bool {
+        if self.may_park {
+            comes_later(done)
+        } else {
+            is_interrupted(done)
+        }
+    }
+
     /// Writes bytes, once some can be taken.
-    pub fn write(&self, buf: &[u8]) -> io::Result<usize>
+    pub fn write(&self, thread: &RunningThread<'_, C>, buf: &[u8]) -> io::Result<usize>
         ensures { WritesAtMost result buf.now }
     {
-        let written = self.write_some(buf);
+        let written = self.write_some(thread, buf);
         self.since.set(None);
         self.note(&written);
         if let Ok(0) = written {
@@ -191,7 +376,7 @@ impl<'a, C: Clock> Socket<'a, C> {
         written
     }
 
-    fn write_some(&self, buf: &[u8]) -> io::Result<usize>
+    fn write_some(&self, thread: &RunningThread<'_, C>, buf: &[u8]) -> io::Result<usize>
         ensures { WritesAtMost result buf.now }
     {
         let mut stream = self.stream;
@@ -204,9 +389,10 @@ impl<'a, C: Clock> Socket<'a, C> {
         }
         let start = self.now()?;
         let written = stream.write(buf);
-        if !is_interrupted(&written) {
+        if !self.is_to_wait(&written) {
             return written;
         }
+        thread.block();
         for _ in 0..u64::MAX {
             self.put_rest(start)?;
             let written = stream.write(buf);
@@ -230,7 +416,7 @@ impl<'a, C: Clock> Socket<'a, C> {
     /// not wait, but takes what came in the meantime.
     fn put_rest(&self, start: Option<Instant>) -> io::Result<()> {
         let (Some(idle), Some(start)) = (self.idle, start) else {
-            return Ok(());
+            return self.put_no_end();
         };
         let rest = idle.saturating_sub(start.elapsed(self.clock)?);
         if rest.is_zero() {
@@ -239,11 +425,52 @@ impl<'a, C: Clock> Socket<'a, C> {
         set_timeouts(self.stream, Some(rest))
     }
 
-    /// From now on a read or a write waits for the whole idle time again.
+    /// From now on a read or a write waits without an end.
+    fn put_no_end(&self) -> io::Result<()> {
+        if self.may_park {
+            set_timeouts(self.stream, None)
+        } else {
+            Ok(())
+        }
+    }
+
+    /// From now on a read or a write waits as it did at first.
     fn restore_timeouts(&self) {
         // Where this fails, the next wait is as short as the rest of this one.
-        let _ = set_timeouts(self.stream, self.idle);
+        let _ = set_first_timeouts(self.stream, self.idle, self.may_park);
     }
+}
+
+/// Makes the stream of a new connection ready for its sessions. A read or a write that waits longer than the idle time fails, if there is
+/// one. Where sessions may leave their threads to others, a read ends sooner, and is tried again.
+pub fn make_ready(stream: &TcpStream, idle: Option<Duration>, may_park: bool) {
+    // Without this an answer may be held back; where it fails it still comes.
+    let _ = stream.set_nodelay(true);
+    // Where this fails, a wait has no end; an open socket takes it.
+    let _ = set_first_timeouts(stream, idle, may_park);
+}
+
+/// From now on a read or a write waits as in a new session.
+fn set_first_timeouts(
+    stream: &TcpStream,
+    idle: Option<Duration>,
+    may_park: bool,
+) -> io::Result<()> {
+    if !may_park {
+        return set_timeouts(stream, idle);
+    }
+    stream.set_read_timeout(Some(Duration::from_millis(LOOK_MILLISECONDS)))?;
+    stream.set_write_timeout(Some(Duration::from_millis(WRITE_MILLISECONDS)))
+}
+
+/// Whether a read would not wait.
+pub fn is_readable(stream: &TcpStream) -> bool {
+    let mut asked = [pollfd {
+        fd: stream.as_raw_fd(),
+        events: POLLIN,
+        revents: 0,
+    }];
+    poll(&mut asked, 0) > 0
 }
 
 /// How one failed of this kind.

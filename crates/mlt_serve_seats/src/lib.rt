@@ -18,7 +18,7 @@ mod writing;
 pub use histogram::{BOUNDS, Histogram};
 pub use note::{Cut, ListenerEnd, Note};
 pub use notes::{Notes, Outlet};
-pub use presence::is_broken;
+pub use presence::{is_broken, is_read_out};
 pub use seat::{Patience, Seat, Seats, SessionState, SessionTimes};
 pub use session::{OpenTransaction, SessionActivity, WaitState};
 pub use sitting::Sitting;

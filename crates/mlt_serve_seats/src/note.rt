@@ -97,6 +97,12 @@ pub enum Note {
     /// A client was refused since all sessions were taken, the first one.
     #[error("the first client was refused, all sessions are taken (TooManyOpen)")]
     NoSession,
+    /// A client was refused since so many are connected, the first one.
+    #[error("the first client was refused, {0} clients are connected (TooManyOpen)")]
+    NoPlace(u64),
+    /// So many clients wait for a session thread, and none was taken for a second.
+    #[error("clients wait for a session, since all are busy: {0}")]
+    ClientsWait(u64),
     /// The operator's address is not loopback.
     #[error("the admin address {0} is not loopback")]
     OpenAdmin(SocketAddr),

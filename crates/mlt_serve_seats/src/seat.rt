@@ -32,7 +32,7 @@ pub struct SessionState {
     pub client: u32,
     /// The address of its client, if the system could say so.
     pub address: Option<SocketAddr>,
-    /// When it began, if a clock could say so.
+    /// When its client came, if a clock could say so.
     pub since: Option<Instant>,
     /// The number of the transaction that it has begun last, whether or not that is shown; 0 before the first.
     pub last: TxId,
@@ -64,6 +64,8 @@ pub struct SessionTimes {
     pub transactions: Histogram,
     /// From when an operation was first told to wait to when it was told something else.
     pub waits: Histogram,
+    /// For how long connections waited for a session thread.
+    pub queues: Histogram,
 }
 
 /// What one session thread does, for others to see, and the session that it serves.
@@ -76,12 +78,18 @@ pub struct Seat {
     record: Mutex<Record>,
     transaction_times: SharedHistogram,
     wait_times: SharedHistogram,
+    queue_times: SharedHistogram,
 }
 
 impl Seat {
-    /// A session with this client begins.
-    pub fn enter<R: Wait + Clock>(&self, rt: &R, client: u32, stream: Arc<TcpStream>) {
-        let since = Instant::now(rt).ok();
+    /// A session begins with this client, which came then, if a clock could say so.
+    pub fn enter<R: Wait>(
+        &self,
+        rt: &R,
+        client: u32,
+        since: Option<Instant>,
+        stream: Arc<TcpStream>,
+    ) {
         self.hurries.store(false, Ordering::Relaxed);
         self.last.store(0, Ordering::Relaxed);
         let mut record = self.record.lock(rt);
@@ -95,6 +103,11 @@ impl Seat {
             cut: None,
             stream,
         });
+    }
+
+    /// A connection was taken that has waited for the session thread since then.
+    pub fn take<R: Clock>(&self, rt: &R, queued_since: Option<Instant>) {
+        self.queue_times.add(queued_since, Instant::now(rt).ok());
     }
 
     /// The session has ended. It answers why others have cut it, if they have.
@@ -270,6 +283,7 @@ impl Seats {
         for seat in self.all() {
             seat.transaction_times.add_to(&mut times.transactions);
             seat.wait_times.add_to(&mut times.waits);
+            seat.queue_times.add_to(&mut times.queues);
         }
         times
     }

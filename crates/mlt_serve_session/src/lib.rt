@@ -5,6 +5,7 @@
 //! them. That an answer is written before the next read is only tested.
 #![tactic(auto)]
 
+mod line_source;
 mod notes;
 mod noting;
 mod receipts;
@@ -13,6 +14,7 @@ mod sessions;
 mod tally;
 mod turn;
 
+pub use line_source::LineSource;
 pub use receipts::{EndedTx, Receipts};
 pub use sessions::{Summary, session};
 pub use tally::Tally;

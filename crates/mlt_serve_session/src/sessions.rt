@@ -10,6 +10,7 @@ ghost use Rattle.mlt_serve_session.specs.Sessions.{SessionAnswers, scene};
 ghost use Rattle.mlt_serve_session.specs.Talks.{closing, closing_answers};
 ghost use Rattle.mlt_serve_session.specs.Turns.{IsSmall, talk_state, start};
 
+use crate::line_source::LineSource;
 use crate::notes::SessionRecord;
 use crate::receipts::Receipts;
 use crate::said::push_said;
@@ -19,7 +20,7 @@ use mlt_script_serial::Desk;
 use mlt_text::{MAX_INPUT, fill, keep, write_text, zeros};
 use mlt_types::Refusal;
 use std::alloc::{AllocError, Global};
-use std::io::{Read, Write};
+use std::io::Write;
 use std::mem;
 
 // How many bytes a session holds.
@@ -97,9 +98,34 @@ fn reply<W: Write, D: Desk, K: Receipts>(
     Ok(at)
 }
 
+// Reads at most `most` bytes behind the `held` ones, and returns how many came, as `fill` does. Between two transactions the reader is told
+// so.
+fn read_on<R: LineSource>(
+    reader: &mut R,
+    is_between: bool,
+    buffer: &mut [u8],
+    held: usize,
+    most: usize,
+) -> Result<usize, Refusal>
+    requires room { held < length buffer.old }
+    requires most { 0 < most }
+    ensures ok { IfOk result (λ count. (piece : List ℕ)
+        × (take (held + count) buffer.new ≡ take held buffer.old ++ piece)
+        × (length piece ≡ count) × (count ≤ most) × (held + count ≤ length buffer.old)
+        × Consumes (R.remaining reader.old) (R.remaining reader.new) piece
+        × (count ≡ 0 → IsAtEnd (R.remaining reader.new))) }
+    ensures err { OnErr result (Keeps (R.remaining reader.old) (R.remaining reader.new)) }
+    ensures refusal { IsOkUnless result Refusal.Io }
+{
+    if is_between {
+        reader.pause(&buffer[..held]);
+    }
+    fill(reader, buffer, held, most)
+}
+
 // Reads and answers until the input or the session ends. The buffer has room for a line that goes on, and
 // more.
-fn listen<R: Read, W: Write, D: Desk, K: Receipts>(
+fn listen<R: LineSource, W: Write, D: Desk, K: Receipts>(
     reader: &mut R,
     writer: &mut W,
     notes: &mut SessionRecord<K>,
@@ -129,7 +155,8 @@ fn listen<R: Read, W: Write, D: Desk, K: Receipts>(
     let mut total = 0;
     // Each read gives a byte, or is the last.
     'rounds: for _ in 0..MAX_INPUT + 1 {
-        let count = fill(reader, buffer, held, (MAX_INPUT - total).max(1))?;
+        let most = (MAX_INPUT - total).max(1);
+        let count = read_on(reader, notes.progress.tx.is_none(), buffer, held, most)?;
         if count == 0 {
             return Ok(());
         }
@@ -178,7 +205,7 @@ fn finish<D: Desk, K: Receipts + Drop>(mut notes: SessionRecord<K>, desk: &mut D
 /// failed, or more than 16,777,216 bytes came: all lines of the first 16,777,216 bytes were heard, and a
 /// prefix of the text was written, or all of it where more bytes came. `OutOfMemory` where a growth was
 /// refused: the first lines were heard, and a prefix of the text was written.
-pub fn session<R: Read, W: Write, D: Desk, K: Receipts + Drop>(
+pub fn session<R: LineSource, W: Write, D: Desk, K: Receipts + Drop>(
     alloc: Global,
     reader: &mut R,
     writer: &mut W,

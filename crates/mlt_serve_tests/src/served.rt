@@ -49,6 +49,7 @@ fn serve_two<R: Threads + Wait + Clock + Sync + Send + Copy + 'static>(
         idle: None,
         wait: None,
         open: None,
+        clients: 2,
         refuses: false,
     };
     let operating = Operating {

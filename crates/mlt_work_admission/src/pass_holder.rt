@@ -122,6 +122,11 @@ impl<'a, R: Wait> PassHolder<'a, R> {
         }
     }
 
+    /// Its next transaction is a restarted one: it pauses before.
+    pub fn pause_next(&self) {
+        self.gave_up.set(true);
+    }
+
     /// Whether it is to pause before its next transaction, which is told once.
     pub fn is_to_pause(&self) -> bool {
         self.gave_up.replace(false)

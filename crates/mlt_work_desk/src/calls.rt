@@ -90,6 +90,23 @@ impl<'a, P: Pseudo, L: MadeWith<P>, R: Wait, G: Gate> LockDesk<'a, P, L, R, G> {
         self.keeps_timestamp = false;
     }
 
+    /// The timestamp that the next transaction keeps, if it does.
+    pub fn kept_timestamp(&self) -> Option<u64> {
+        self.keeps_timestamp.then_some(self.thread.timestamp)
+    }
+
+    /// The next transaction keeps this timestamp, if there is one: that of the last one of its client, which another desk has served.
+    pub fn keep_timestamp(&mut self, timestamp: Option<u64>)
+        ensures snapshot { self.new.snapshot ≡ self.old.snapshot }
+        ensures tries { self.new.tries ≡ self.old.tries }
+        ensures events { self.new.share.amount ≡ self.old.share.amount }
+    {
+        if let Some(timestamp) = timestamp {
+            self.thread.timestamp = timestamp;
+            self.keeps_timestamp = true;
+        }
+    }
+
     /// Ends the desk, and gives its share, the number of its events, and what the history was after the last of them.
     pub fn close(self) -> (Share<L>, u64, LogSnapshot)
         ensures part { result.0.parts ≡ 1 }

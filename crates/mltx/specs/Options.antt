@@ -21,4 +21,4 @@ pub record HasNumbers (limits : Limits) (count : ℕ) : Type 0 where
 -- A server of so many connections has 2 ^ 32 numbers of transactions; one without an end has the most of both.
 abbrev pub AreLimitsOf : Connections → Limits → ℕ → Type 0
 AreLimitsOf (Connections.Limit limit) limits connections = HasNumbers limits (2 ^ 32) × (connections ≡ limit)
-AreLimitsOf Connections.Endless limits connections = HasNumbers limits (2 ^ 63 - 1) × (connections ≡ 2 ^ 63 - 1)
+AreLimitsOf (Connections.Endless _) limits connections = HasNumbers limits (2 ^ 63 - 1) × (connections ≡ 2 ^ 63 - 1)

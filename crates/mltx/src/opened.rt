@@ -4,7 +4,9 @@ use crate::failure::{Failure, Subject};
 use crate::files::{move_away, open_locked};
 use crate::output::Output;
 use crate::streams::is_ready;
+use libc::RLIMIT_NOFILE;
 use libc::net::POLLOUT;
+use libc::types::rlimit;
 use mlt_cli::Serve;
 use mlt_serve::TraceFile;
 use mlt_text::write_text;
@@ -12,10 +14,15 @@ use mlt_types::Refusal;
 use std::fs::File;
 use std::hash::{BuildHasher, RandomState};
 use std::net::{SocketAddr, TcpListener};
+use std::os::fd::AsRawFd;
 use std::{fs, io};
 
 // How many bits of a random number are left out, so that those who read numbers as doubles read it exactly.
 const UNUSED_BITS: u32 = 11;
+
+// How many descriptors a server may need beside those that it has as it begins to listen, and those of its clients: for two pollers, for
+// operators, and for files of a base that is saved.
+const OWN_DESCRIPTORS: u64 = 12;
 
 // What the second of two servers with one trace is told.
 const TAKEN: &str = "another server writes its trace there";
@@ -71,24 +78,44 @@ impl Opened {
         })
     }
 
-    /// That a connection of a client can be had beside those of an operator, if one may connect. A thread has its descriptor as soon as
-    /// it waits for a connection, and two wait for operators.
+    /// That a connection of a client can be had beside those of an operator, if one may connect, and a second descriptor of a poll, if
+    /// there is one. A thread has its descriptor as soon as it waits for a connection, and two wait for operators.
     ///
     /// # Errors
     /// Where a process may not have so many descriptors.
-    pub(crate) fn spare_descriptors(&self) -> Result<(), Failure> {
+    pub(crate) fn spare_descriptors(&self, polls: bool) -> Result<(), Failure> {
         let client = self.listener.try_clone();
+        let poll = polls.then(|| self.listener.try_clone());
         let first = self.admin.as_ref().map(|admin| admin.try_clone());
         let second = self.admin.as_ref().map(|admin| admin.try_clone());
         client
             .and(first.transpose())
             .and(second.transpose())
+            .and(poll.transpose())
             .map(|_| ())
             .map_err(|error| Failure::of_call(Subject::Input, error))
     }
 
+    /// How many clients can be connected, if the descriptors that a process may have leave room for fewer than so many: beside those that
+    /// are taken, and some for operators, files and waits.
+    pub(crate) fn few_clients(&self, clients: u64) -> Option<u64> {
+        let mut limit = rlimit {
+            rlim_cur: 0,
+            rlim_max: 0,
+        };
+        if libc::getrlimit(RLIMIT_NOFILE, &mut limit) != 0 {
+            return None;
+        }
+        // The system gives the lowest one that is free.
+        let next = self.listener.try_clone().ok()?;
+        let taken = u64::try_from(next.as_raw_fd()).unwrap_or(0);
+        let room = limit.rlim_cur.saturating_sub(taken);
+        let room = room.saturating_sub(OWN_DESCRIPTORS).max(1);
+        (room < clients).then_some(room)
+    }
+
     /// Tells on standard error this, where the server listens, for clients and for an operator, its number if that is asked for, and, if
-    /// that is so, that a signal loses its base. It returns what would have to wait for its reader. A server whose lines can't be written
+    /// that is so, that a signal loses its base, and how many clients it has room for, if they are few. It returns what would have to wait for its reader. A server whose lines can't be written
     /// goes on.
     pub(crate) fn report(
         &self,
@@ -96,6 +123,7 @@ impl Opened {
         told: String,
         tells_number: bool,
         loses_base: bool,
+        few_clients: Option<u64>,
     ) -> Result<String, Failure> {
         let mut lines = told;
         self.push_lines(&mut lines)?;
@@ -104,6 +132,12 @@ impl Opened {
         }
         if loses_base {
             lines.push_str(NOT_HELD)?;
+        }
+        if let Some(room) = few_clients {
+            write!(
+                lines,
+                "mltx: the limit of descriptors leaves room for {room} clients\n"
+            )?;
         }
         let mut stderr = rt.stderr();
         if !is_ready(&stderr, POLLOUT, 0) {

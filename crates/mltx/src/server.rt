@@ -11,6 +11,7 @@ use crate::loading::{LoadEnd, LoadSlot, ServedBase};
 use crate::opened::Opened;
 use crate::output::Output;
 use crate::saving::{Mark, SaveFile};
+use mio::Poll;
 use mlt_cli::{Connections, Full, Serve, VERSION};
 use mlt_manager::Manager;
 use mlt_serve::{Admin, Operating, ServeOptions, Served, ServedEndless, serve_endless, serve_on};
@@ -39,7 +40,7 @@ pub(crate) fn run_server<
     requires some { 0 < serve.now.sessions }
     requires most { serve.now.sessions ≤ 64 }
 {
-    let options = serve_options(serve);
+    let mut options = serve_options(serve);
     let mut signal = EndSignals::new(rt, threads, serve.operating.until_eof)?;
     let Beginning {
         base,
@@ -55,9 +56,20 @@ pub(crate) fn run_server<
         None => serve.run.trace.as_ref().map(|file| file.as_str()),
     };
     let opened = Opened::open(rt, serve, trace)?;
-    opened.spare_descriptors()?;
+    let poll = match serve.connections {
+        Connections::Endless(_) => {
+            Some(Poll::new(rt).map_err(|error| Failure::of_call(Subject::Input, error))?)
+        }
+        Connections::Limit(_) => None,
+    };
+    opened.spare_descriptors(poll.is_some())?;
     let loses = save.is_some() && !signal.are_held();
-    let unsaid = opened.report(rt, told, tells_number, loses)?;
+    let few_clients = match serve.connections {
+        Connections::Endless(clients) => opened.few_clients(clients),
+        Connections::Limit(_) => None,
+    };
+    options.clients = few_clients.unwrap_or(options.clients);
+    let unsaid = opened.report(rt, told, tells_number, loses, few_clients)?;
     let Opened {
         listener,
         admin,
@@ -84,8 +96,8 @@ pub(crate) fn run_server<
     };
     let end = LoadSlot::new(rt.alloc())?;
     let base = ServedBase::new(rt.alloc(), base, end.clone()?);
-    let (connections, manager, trace_failure) = match serve.connections {
-        Connections::Limit(_) => {
+    let (connections, manager, trace_failure) = match poll {
+        None => {
             let served = match serve_on(
                 threads,
                 rt.alloc(),
@@ -100,7 +112,7 @@ pub(crate) fn run_server<
             };
             (served.connections, served.manager, served.trace_failure)
         }
-        Connections::Endless => {
+        Some(poll) => {
             let told = match serve_endless(
                 threads,
                 rt.alloc(),
@@ -109,6 +121,7 @@ pub(crate) fn run_server<
                 &options,
                 operating,
                 base,
+                poll,
             ) {
                 Ok(told) => told,
                 Err(refusal) => return tell_refusal(rt, serve, end.take(), refusal),
@@ -196,7 +209,7 @@ fn serve_options(serve: &Serve) -> ServeOptions
     ensures open { IsTimeOf serve.now.times.transaction result.open }
     ensures refuses { (serve.now.full ≡ Full.Refuse) ↔ (result.refuses ≡ true) }
 {
-    let (limits, connections) = limits_of(&serve.connections);
+    let (limits, connections, clients) = limits_of(&serve.connections);
     ServeOptions {
         limits,
         sessions: serve.sessions,
@@ -205,17 +218,18 @@ fn serve_options(serve: &Serve) -> ServeOptions
         idle: seconds(serve.times.idle),
         wait: seconds(serve.times.wait),
         open: seconds(serve.times.transaction),
+        clients,
         refuses: serve.full == Full::Refuse,
     }
 }
 
-// The limits of the manager, and how many connections are accepted.
-fn limits_of(connections: &Connections) -> (Limits, u64)
+// The limits of the manager, how many connections are accepted in all, and how many clients may be connected at once.
+fn limits_of(connections: &Connections) -> (Limits, u64, u64)
     ensures { AreLimitsOf connections.now result.0 result.1 }
 {
     match connections {
-        Connections::Limit(limit) => (Limits::program(), u64::from(*limit)),
-        Connections::Endless => (Limits::endless(), MOST_CONNECTIONS),
+        Connections::Limit(limit) => (Limits::program(), u64::from(*limit), u64::MAX),
+        Connections::Endless(clients) => (Limits::endless(), MOST_CONNECTIONS, *clients),
     }
 }
 

@@ -19,7 +19,7 @@ rounds-init g c =
 
 pub returns-in_err-count-clause-err : goal.returns-in_err-count-clause-err
 returns-in_err-count-clause-err g c =
-    on_err_all _ _ (breaks c.rounds.invariant.listens [] (g.R.Read.remaining c.fill.new.reader) (nothing_read _ _ c.in_err-count.ensures.err) (omega (arith, c.rounds.invariant.total)))
+    on_err_all _ _ (breaks c.rounds.invariant.listens [] (g.R.Read.remaining c.read_on.new.reader) (nothing_read _ _ c.in_err-count.ensures.err) (omega (arith, c.rounds.invariant.total)))
 
 pub returns-in_err-count-clause-io : goal.returns-in_err-count-clause-io
 returns-in_err-count-clause-io g c _ =
@@ -28,13 +28,13 @@ returns-in_err-count-clause-io g c _ =
 pub returns-then-total-gt-MAX_INPUT-clause-err : goal.returns-then-total-gt-MAX_INPUT-clause-err
 returns-then-total-gt-MAX_INPUT-clause-err g c =
     let f = c.in_ok-count.ensures.ok in
-    breaks c.rounds.invariant.listens f.0 _ f.5 (omega (arith, f.2, f.3, c.max.ensures, c.rounds.invariant.total))
+    breaks c.rounds.invariant.listens f.0 _ f.5 (omega (arith, f.2, f.3, c.max-most.ensures, c.rounds.invariant.total))
 
 pub returns-then-total-gt-MAX_INPUT-clause-io : goal.returns-then-total-gt-MAX_INPUT-clause-io
 returns-then-total-gt-MAX_INPUT-clause-io g c _ =
     let f = c.in_ok-count.ensures.ok in
     breaks_heard c.rounds.invariant.listens f.0 _ f.5 c.rounds.invariant.total
-    (omega (arith, f.2, f.3, c.max.ensures, c.rounds.invariant.total)) (inr (omega (arith, f.2, f.3, c.max.ensures, c.rounds.invariant.total))) c.rounds.invariant.going
+    (omega (arith, f.2, f.3, c.max-most.ensures, c.rounds.invariant.total)) (inr (omega (arith, f.2, f.3, c.max-most.ensures, c.rounds.invariant.total))) c.rounds.invariant.going
 
 pub returns-then-count-eq0-clause-ok : goal.returns-then-count-eq0-clause-ok
 returns-then-count-eq0-clause-ok g c =
@@ -44,7 +44,7 @@ returns-then-count-eq0-clause-ok g c =
 pub returns-in_err-at-clause-err : goal.returns-in_err-at-clause-err
 returns-in_err-at-clause-err g c =
     let f = c.in_ok-count.ensures.ok in
-    on_err_all _ _ (stops c.rounds.invariant.listens f.0 (g.R.Read.remaining c.fill.new.reader) f.5 (omega (arith, f.2, c.if-total-gt-MAX_INPUT.false)) f.1 c.in_err-at.ensures.err)
+    on_err_all _ _ (stops c.rounds.invariant.listens f.0 (g.R.Read.remaining c.read_on.new.reader) f.5 (omega (arith, f.2, c.if-total-gt-MAX_INPUT.false)) f.1 c.in_err-at.ensures.err)
 
 pub returns-in_err-at-clause-io : goal.returns-in_err-at-clause-io
 returns-in_err-at-clause-io g c io =
@@ -64,7 +64,7 @@ rounds-preserved g c =
     c.in_ok-at.ensures.ok c.if-notes.false c.in_ok-at.ensures.lines c.keep-held.ensures.bytes in
     let short = more.short in
     let b = c.keep-held.auto.buffer in
-    let k = c.fill.auto.buffer in
+    let k = c.read_on.auto.buffer in
     let w = f.4 in
     let h = c.keep-held.ensures.held in
     record {

@@ -12,10 +12,10 @@ returns-clause-session g c =
     let bits_of = g.P.Pseudo.bits_of in
     let last = c.session-ended.new.desk.desk in
     let is : c.close-mine.result.2 ≡ last.snapshot = search rules in
-    let seen : seen_by c.serve.new.self.snapshot ≡ seen_by c.args.self.now.snapshot = search rules in
-    let begun : begun_by c.serve.new.self.snapshot ≡ begun_by c.args.self.now.snapshot = search rules in
-    let tried : c.serve.new.self.tries ≡ tries_of (PerOperation c.args.service.now.options.now.tries) = search rules in
-    let counted : c.serve.new.self.share.amount ≡ 0 = search rules in
+    let seen : seen_by c.keep_timestamp.new.self.snapshot ≡ seen_by c.args.self.now.snapshot = search rules in
+    let begun : begun_by c.keep_timestamp.new.self.snapshot ≡ begun_by c.args.self.now.snapshot = search rules in
+    let tried : c.keep_timestamp.new.self.tries ≡ tries_of (PerOperation c.args.service.now.options.now.tries) = search rules in
+    let counted : c.keep_timestamp.new.self.share.amount ≡ 0 = search rules in
     record {
       desk = desk_view last.snapshot last.tries last.share.amount;
       past = ap seen_by (sym is);
@@ -43,7 +43,7 @@ pub returns-clause-sees : goal.returns-clause-sees
 returns-clause-sees g c =
     let ended = c.session-ended.ensures in
     let last = first_items c.session-ended.new.desk.desk.snapshot in
-    let began : first_items c.serve.new.self.snapshot ≡ first_items c.args.self.now.snapshot = search rules in
+    let began : first_items c.keep_timestamp.new.self.snapshot ≡ first_items c.args.self.now.snapshot = search rules in
     let is : first_items c.close-mine.result.2 ≡ last = search rules in
     let sees = sees_on g.P.Pseudo.bits_of (λ d. desk_view d.desk.snapshot d.desk.tries d.desk.share.amount) _ (λ old call answer new moved. moved) c.args.client _ _ c.session-ended.result ended.answers ended.refusal in
     subst (λ items. StartsWith items (first_items c.args.self.now.snapshot)) (sym is) (subst (StartsWith last) began sees)
@@ -62,7 +62,7 @@ invariant_of-self-clause-told g c =
     let new = g.K.Receipts.receipts c.session-ended.new.outcomes in
     let first = first_items c.args.self.now.snapshot in
     let last = first_items c.session-ended.new.desk.desk.snapshot in
-    let began : first_items c.serve.new.self.snapshot ≡ first = search rules in
+    let began : first_items c.keep_timestamp.new.self.snapshot ≡ first = search rules in
     let is : first_items c.close-mine.result.2 ≡ last = search rules in
     let ended = c.session-ended.ensures in
     let outcomes = grows g.P.Pseudo.bits_of (λ d. desk_view d.desk.snapshot d.desk.tries d.desk.share.amount) _ (λ old call answer new moved. moved) c.args.client _ _ c.session-ended.result ended.answers ended.refusal in
@@ -73,14 +73,14 @@ invariant_of-self-clause-told g c =
 pub invariant_of-self-clause-begun : goal.invariant_of-self-clause-begun
 invariant_of-self-clause-begun g c =
     let ended = c.session-ended.ensures in
-    let began : begun_by c.serve.new.self.snapshot ≡ txs_of (g.K.Receipts.receipts c.args.self.now.outcomes) = search rules in
+    let began : begun_by c.keep_timestamp.new.self.snapshot ≡ txs_of (g.K.Receipts.receipts c.args.self.now.outcomes) = search rules in
     let is : begun_by c.close-mine.result.2 ≡ begun_by c.session-ended.new.desk.desk.snapshot = search rules in
     is ∙ begins_on g.P.Pseudo.bits_of (λ d. desk_view d.desk.snapshot d.desk.tries d.desk.share.amount) _ (λ old call answer new moved. moved) c.args.client _ _ c.session-ended.result ended.answers ended.refusal began
 
 pub invariant_of-self-clause-given : goal.invariant_of-self-clause-given
 invariant_of-self-clause-given g c =
     let ended = c.session-ended.ensures in
-    let tried : c.serve.new.self.tries ≡ tries_of (PerOperation c.args.service.now.options.now.tries) = search rules in
-    let given : c.serve.new.self.tries.given ≡ g.L.MadeWith.tries = ap (λ (t : TriesLeft). t.given) tried ∙ c.args.service.now.tries in
+    let tried : c.keep_timestamp.new.self.tries ≡ tries_of (PerOperation c.args.service.now.options.now.tries) = search rules in
+    let given : c.keep_timestamp.new.self.tries.given ≡ g.L.MadeWith.tries = ap (λ (t : TriesLeft). t.given) tried ∙ c.args.service.now.tries in
     given_on g.P.Pseudo.bits_of (λ d. desk_view d.desk.snapshot d.desk.tries d.desk.share.amount) _ (λ old call answer new moved. moved) c.args.client _ _ c.session-ended.result ended.answers ended.refusal
     g.L.MadeWith.tries given c.args.self.now.given
