@@ -249,9 +249,10 @@ class Pool(PoolCore[Client]):
         *,
         size: int = 10,
         timeout: Optional[float] = 5.0,
+        idle: Optional[float] = 60.0,
         **options: Any,
     ) -> None:
-        super().__init__([Client(address, port, **options) for _ in range(size)], timeout)
+        super().__init__([Client(address, port, **options) for _ in range(size)], timeout, idle)
 
     async def __aenter__(self) -> Pool:
         return self

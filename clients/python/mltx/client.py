@@ -303,7 +303,8 @@ class Pool(PoolCore[Client]):
     """Clients of one server for threads, at most `size` of them. A thread takes one, and waits up to `timeout` seconds for it;
     then `PoolTimeout` is raised.
 
-    A client connects when it is first used, and again if its connection has ended. The first that finds another server raises
+    A client connects when it is first used, and again if its connection has ended. Connections that nobody has used for `idle`
+    seconds end when another one is given back. The first that finds another server raises
     `ServerRestarted`, with those that were just beginning a transaction, and the others don't. As a `with` block the pool is
     closed at the end of the block."""
 
@@ -314,10 +315,11 @@ class Pool(PoolCore[Client]):
         *,
         size: int = 10,
         timeout: Optional[float] = 5.0,
+        idle: Optional[float] = 60.0,
         **options: Any,
     ) -> None:
         """The address and the other options are those of `Client`."""
-        super().__init__([Client(address, port, **options) for _ in range(size)], timeout)
+        super().__init__([Client(address, port, **options) for _ in range(size)], timeout, idle)
 
     def __enter__(self) -> Pool:
         return self

@@ -566,16 +566,19 @@ ClientOf = TypeVar("ClientOf", bound=ClientCore[Any, Any])
 class PoolCore(Generic[ClientOf]):
     """A bounded number of clients of one server. Each connects when it is first used, and again if its connection has ended.
     They share what they know of the server: the first that finds another one raises `ServerRestarted`, with those that were just
-    beginning a transaction, and the others don't."""
+    beginning a transaction, and the others don't. Of those that are free one with a connection is taken before others. Whenever
+    one is given back, the connections end that were free for `idle` seconds, if that is not None."""
 
-    def __init__(self, clients: list[ClientOf], timeout: Optional[float]) -> None:
+    def __init__(self, clients: list[ClientOf], timeout: Optional[float], idle: Optional[float]) -> None:
         if not clients:
             raise ValueError("size has to be at least 1")
-        self.timeout = timeout
+        self.timeout, self.idle = timeout, idle
         self.is_closed = False
         self._lock = threading.Lock()
         # All clients, those that are free, and the futures of those that wait for one, the longest first.
         self._clients, self._free, self._waiting = clients, list(clients), list[Any]()
+        # When each client was given back last.
+        self._given_back = {client: time.monotonic() for client in clients}
         for client in clients:
             client._numbers = clients[0]._numbers
 
@@ -611,11 +614,29 @@ class PoolCore(Generic[ClientOf]):
         """Gives the clients that are free to those that wait."""
         with self._lock:
             while self._free and self._waiting:
-                self._waiting.pop(0).set_result(self._free.pop())
+                client = next((client for client in reversed(self._free) if client._last), self._free[-1])
+                self._free.remove(client)
+                self._waiting.pop(0).set_result(client)
 
     def _put(self, client: ClientOf) -> None:
         with self._lock:
+            self._given_back[client] = time.monotonic()
             self._free.append(client)
+        self._hand_over()
+
+    def _end_idle(self) -> None:
+        """Ends the connections of clients that were free for too long."""
+        if self.idle is None:
+            return
+        least = time.monotonic() - self.idle
+        with self._lock:
+            idle = [client for client in self._free if client._last and self._given_back[client] <= least]
+            self._free = [client for client in self._free if client not in idle]
+        for client in idle:
+            with suppress(WrongThread):
+                client.close()
+        with self._lock:
+            self._free = idle + self._free
         self._hand_over()
 
     def _give_back(self, client: ClientOf) -> None:
@@ -624,6 +645,7 @@ class PoolCore(Generic[ClientOf]):
                 client.close()
         finally:
             self._put(client)
+            self._end_idle()
 
     def close(self) -> None:
         """Ends the connections. One that is in use ends when it is given back."""
