@@ -334,6 +334,32 @@ def pool_is_bounded(mltx: Program) -> None:
 
 
 @test(seconds=1)
+def pool_keeps_few_connections(mltx: Program) -> None:
+    """One thread uses one connection of a pool, again and again. Others that were free for the idle time end as it does."""
+    with mltx.serve("--endless", limit=None, admin=free_address()) as server, ThreadPoolExecutor(5) as threads:
+        def connections() -> tuple[int, int]:
+            told = Operator("%s:%d" % server.admin).status()
+            return told["sessions"], told["connections"]
+
+        with Pool(*server.address, size=5, idle=0.5) as pool:
+            for number in range(1, 11):
+                same(pool.run(lambda tx: tx.up(7, 1)), Reply.DONE, f"transaction {number}")
+            same(connections(), (1, 1), "who has connected for one thread")
+            together = threading.Barrier(5)
+
+            def meets(tx: Transaction) -> None:
+                tx.up(7, 1)
+                together.wait(PATIENCE)
+
+            list(threads.map(lambda _: pool.run(meets), range(5)))
+            same(connections(), (5, 5), "who has connected for five")
+            time.sleep(0.6)
+            pool.run(lambda tx: tx.up(7, 1))
+            comes_to_be(lambda: connections() == (1, 5), "connections that nobody has used end")
+            same(pool.run(lambda tx: tx.read(7)), 16, "the counter")
+
+
+@test(seconds=1)
 def pool_replaces_what_broke(mltx: Program) -> None:
     """A connection that an operator ended, or in which a transaction was left open, is replaced; a closed pool gives none."""
     with mltx.serve("--endless", limit=None, admin=free_address()) as server, Pool(*server.address, size=1) as pool:

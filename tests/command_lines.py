@@ -96,12 +96,14 @@ OF_OPTIONS = {
     "--tries <N>": "Answer GaveUp after N waits for other transactions, 1 to 1000000 [default: 10000]",
     "--long": "Check a trace of any length: read it piece by piece, and print while reading",
     "--endless": "Accept connections without limit, and keep no history in memory; not with --limit",
+    "--clients <N>": "Let up to N clients be connected with --endless, 1 to 100000 [default: 10000]",
     "--limit <N>": "Exit after N connections, 1 to 1000000 [default: 1]",
-    "--sessions <N>": "Serve up to N connections at a time, 1 to 64 [default: 8]",
-    "--full <FULL>": "Let new clients wait, or refuse them, while all sessions are taken [default: wait] "
+    "--sessions <N>": "Serve up to N connections at a time, or with --endless transactions, 1 to 64 [default: 8]",
+    "--full <FULL>": "Let new clients wait, or refuse them, while all sessions, or --clients, are taken [default: wait] "
     "[possible values: wait, refuse]",
     "--wait <SECONDS>": "Answer GaveUp to operations that wait for SECONDS, up to 86400; 0 = never [default: 0]",
-    "--open <SECONDS>": "Close connections whose transaction is open for SECONDS, up to 86400; 0 = never [default: 0]",
+    "--open <SECONDS>": "Close connections whose transaction is open for SECONDS, up to 86400; 0 = never "
+    "[default: 0, or 60 with --endless]",
     "--idle <SECONDS>": "Close connections idle for SECONDS, up to 86400; 0 = never [default: 0]",
     "--admin <ADDR>": "Serve the operator's page, JSON and metrics by HTTP at this IP address and port",
     "--until-eof": "Shut down when standard input ends; not with `&`, `nohup` or `< /dev/null`",
@@ -140,7 +142,7 @@ HELP = {
 # The groups of options that follow the others.
 GROUPS = {
     "serve": {
-        "Connections": ("--endless", "--limit <N>", "--sessions <N>", "--full <FULL>"),
+        "Connections": ("--endless", "--clients <N>", "--limit <N>", "--sessions <N>", "--full <FULL>"),
         "Waits and timeouts": ("--tries <N>", "--wait <SECONDS>", "--open <SECONDS>", "--idle <SECONDS>"),
         "Operation": ("--admin <ADDR>", "--until-eof"),
     },
@@ -356,6 +358,7 @@ NUMBERS = {
     "tries-of-a-server": ("serve", 1, 1_000_000, "127.0.0.1:0"),
     "sessions": ("serve", 1, 64, "127.0.0.1:0"),
     "limit": ("serve", 1, 1_000_000, "127.0.0.1:0"),
+    "clients": ("serve", 1, 100_000, "127.0.0.1:0"),
     "idle": ("serve", 0, 86_400, "127.0.0.1:0"),
     "wait": ("serve", 0, 86_400, "127.0.0.1:0"),
     "open": ("serve", 0, 86_400, "127.0.0.1:0"),

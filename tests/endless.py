@@ -150,7 +150,7 @@ class Counter64:
 @test(seconds=1)
 def numbers_of_transactions_have_63_bits(mltx: Program) -> None:
     """None is refused before the last. So many can't begin in a test, so the count of those that began is changed."""
-    with endless(mltx) as server, server.connect() as peer:
+    with endless(mltx, "--sessions", 1) as server, server.connect() as peer:
         def begun(times: int = 1) -> str:
             """The answer to the last of so many begins, each with an abort behind it."""
             peer.send(lines("begin|abort") * times)
@@ -160,6 +160,8 @@ def numbers_of_transactions_have_63_bits(mltx: Program) -> None:
         same(server.first_line(), listening(server.address))
         with closing(Counter64(server, lambda times: int(begun(times).removeprefix("begun ")))) as number:
             for last in (2**31 - 1, 2**32 - 1, 2**63 - 3):
+                # The client is parked by then, so that no session writes what it has counted over the count that is put there.
+                time.sleep(0.2)
                 number.put(last)
                 same([begun(), begun()], [f"begun {last + 1}", f"begun {last + 2}"], f"behind number {last}")
             same(begun(), "error 9 IdsSpent", "behind the greatest number")

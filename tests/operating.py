@@ -25,11 +25,11 @@ JSON, TEXT = "application/json", "text/plain; charset=utf-8"
 MARK = {"X-Mltx": "1"}
 Row = dict[str, Any]
 NUMBERS = [
-    *("server", "seconds", "sessions", "session_threads", "queued", "connections", "refused", "limit", "open", "begun"),
+    *("server", "seconds", "sessions", "session_threads", "queued", "parked", "connections", "refused", "limit", "open", "begun"),
     *("most_begun", "operations", "commits", "aborts", "gave_up", "deadlocks", "no_room", "events", "items", "bytes", "pages"),
     *("most_pages", "depth", "room", "trace", "trace_failed", "saves", "loading", "stopping"),
 ]
-TIMES = ("transaction_times", "wait_times")
+TIMES = ("transaction_times", "wait_times", "queue_times")
 # The greatest time of each bucket but the last, in microseconds.
 BOUNDS = [step * 10**power for power in range(1, 8) for step in (1, 2, 5) if 50 <= step * 10**power <= 10**7]
 # The header, 256 pages of a directory of depth 16, and a bucket for each of its 65,536 entries. A bucket has room for eight.
@@ -116,7 +116,7 @@ def status_of_a_server_without_clients(mltx: Program) -> None:
         holds(all(type(told[name]) is int for name in NUMBERS), f"{told}")
         same((told["version"], told["address"]), (version(mltx), "%s:%d" % server.address), "the program, and where it listens")
         no_times = {"bounds": BOUNDS, "counts": 18 * [0], "microseconds": 0}
-        same([told[name] for name in TIMES], 2 * [no_times], "the times at the start")
+        same([told[name] for name in TIMES], 3 * [no_times], "the times at the start")
         most = {"limit": 77, "most_begun": 2**32, "most_pages": MOST_PAGES, "room": ROOM}
         others = ("server", "seconds", "session_threads", "bytes", "pages", *most)
         nothing = {name: 0 for name in NUMBERS if name not in others}
@@ -301,10 +301,10 @@ def note_on_pages_that_get_few(mltx: Program) -> None:
 # What a server tells once `busy` has made these numbers, each another one but for zeros. Words in capitals are not known.
 STATUS_TEXT = (
     '{"server":SERVER,"version":"VERSION","address":"ADDRESS","seconds":SECONDS,'
-    '"sessions":6,"session_threads":7,"queued":0,"connections":8,"refused":0,"limit":77,"open":5,'
+    '"sessions":6,"session_threads":7,"queued":0,"parked":0,"connections":8,"refused":0,"limit":77,"open":5,'
     '"begun":24,"most_begun":4294967296,"operations":14,"commits":10,"aborts":9,"gave_up":3,"deadlocks":2,"no_room":0,'
     '"events":EVENTS,"items":59,"bytes":3744,"pages":4,"most_pages":65793,"depth":1,"room":524288,"trace":0,'
-    '"trace_failed":0,"saves":0,"loading":0,"stopping":0,"transaction_times":TIMES,"wait_times":TIMES}\n'
+    '"trace_failed":0,"saves":0,"loading":0,"stopping":0,"transaction_times":TIMES,"wait_times":TIMES,"queue_times":TIMES}\n'
 )
 TIMES_TEXT = f'{{"bounds":[{",".join(map(str, BOUNDS))}],"counts":[COUNTS],"microseconds":SUM}}'
 
@@ -315,15 +315,18 @@ mltx_server SERVER
 # HELP mltx_uptime_seconds Seconds since the server began to listen.
 # TYPE mltx_uptime_seconds gauge
 mltx_uptime_seconds SECONDS
-# HELP mltx_sessions Connections that are being served.
+# HELP mltx_sessions Clients that are connected to a server without an end, or else served.
 # TYPE mltx_sessions gauge
 mltx_sessions 6
 # HELP mltx_session_threads Threads that serve sessions.
 # TYPE mltx_session_threads gauge
 mltx_session_threads 7
-# HELP mltx_queued_connections Connections that were accepted and are not served yet.
+# HELP mltx_queued_connections Connections that wait for a session thread.
 # TYPE mltx_queued_connections gauge
 mltx_queued_connections 0
+# HELP mltx_parked_connections Connections that are idle with no transaction open, and have no session thread.
+# TYPE mltx_parked_connections gauge
+mltx_parked_connections 0
 # HELP mltx_connections_total Connections that were accepted.
 # TYPE mltx_connections_total counter
 mltx_connections_total 8
@@ -402,6 +405,9 @@ TRANSACTION_TIMES
 # HELP mltx_wait_seconds Seconds for which an operation waited for other transactions.
 # TYPE mltx_wait_seconds histogram
 WAIT_TIMES
+# HELP mltx_queue_seconds Seconds for which a connection waited for a session thread.
+# TYPE mltx_queue_seconds histogram
+QUEUE_TIMES
 """
 
 
@@ -455,15 +461,17 @@ def numbers_as_texts(mltx: Program) -> None:
     holds(told["events"] > 24 + 19 + 2 * 14, f"{told['events']} events")
     # 19 transactions have ended, and four operations have waited: two that ended a circle, one of each of these, or none that was
     # given up at once, and one for two seconds.
-    transactions, waits = (told[name] for name in TIMES)
+    transactions, waits, queues = (told[name] for name in TIMES)
     same(sum(transactions["counts"]), 19, "the transactions that have ended")
     holds(3 <= sum(waits["counts"]) <= 5 and sum(waits["counts"][14:]) == 1, f"{waits}")
+    same(sum(queues["counts"]), told["connections"], "the connections that were taken")
     holds(2 * 10**6 <= waits["microseconds"] <= 10**6 * SLACK * 4, f"{waits}")
     status_text = STATUS_TEXT.replace("TIMES", re.sub("COUNTS|SUM", "N", TIMES_TEXT))
     json_text = re.sub(rb'("counts":\[)[0-9,]+(\],"microseconds":)[0-9]+', rb"\1N\2N", json_text)
     status_text = status_text.replace("VERSION", version(mltx)).replace("ADDRESS", "%s:%d" % server.address)
     metrics_wanted = METRICS_TEXT.replace("TRANSACTION_TIMES", histogram_text("transaction", transactions))
     metrics_wanted = metrics_wanted.replace("WAIT_TIMES", histogram_text("wait", waits))
+    metrics_wanted = metrics_wanted.replace("QUEUE_TIMES", histogram_text("queue", queues))
     for name, body, text in (("/status", json_text, status_text), ("/metrics", metrics_text, metrics_wanted)):
         found = match('("seconds":|\nmltx_uptime_seconds )([0-9]+)', body.decode())
         holds(told["seconds"] <= int(found[2]) <= most_seconds, f"{name} tells {found} as seconds")

@@ -5,10 +5,12 @@ stand. What that gives comes from a run with ample memory over the text without 
 import dataclasses
 import errno
 import re
+import subprocess
 from collections.abc import Callable, Iterable, Iterator, Sequence
+from contextlib import suppress
 from typing import TypeVar
 
-from harness import NO_MEMORY, Failed, Program, Ran, Server, cut_for, each, holds, lines, match, same, test
+from harness import NO_MEMORY, Failed, Program, Ran, Server, cut_for, each, holds, lines, match, may_break_off, same, test
 
 WANT = b"mltx: 1 OutOfMemory\n"
 IO = b"mltx: 13 Io\n"
@@ -521,6 +523,40 @@ def serve(mltx: Program, case: tuple[str, str, str]) -> None:
         same(heard, wanted, what)
         same(ended, kept[place][0], f"{what}: the end of the server")
     holds(ways >= {"given up", "told"}, f"only this came: {ways}")
+
+
+@test(seconds=12)
+def parked_clients_are_refused_memory(mltx: Program) -> None:
+    """Two clients that take turns at one session. Where one request for memory is refused, that is told by an answer, by a note
+    on the client that is cut, or by the end of the server; and else both are answered all."""
+    runs, wanted, ways = Runs(mltx, "serve", "--endless"), ["begun", "done", "committed"] * 3, set[str]()
+
+    def turns(number: int) -> tuple[Ran, list[list[str]]]:
+        heard = [list[str](), list[str]()]
+        words = ("--endless", "--until-eof", "--sessions", 1)
+        with mltx.serve(*words, limit=None, stdin=subprocess.PIPE, env=runs.refusing(first=number)) as server:
+            with suppress(Failed), server.connect() as one, server.connect() as other:
+                for _ in range(3):
+                    for peer, answers in ((one, heard[0]), (other, heard[1])):
+                        with suppress(Failed), may_break_off():
+                            answers += [peer.ask(line) for line in ("begin", "up 7 1", "commit")]
+            server.end_input()
+            return server.end(is_all_noted=False), heard
+
+    for what, (ended, heard) in runs.one_refused(turns, step=7):
+        if ended.status != 0:
+            same((ended.status, ended.err), (1, WANT), what)
+            ways.add("ended")
+            continue
+        same(ended.err, b"", what)
+        for client, answers in enumerate(heard, 1):
+            if cut_for(client, NO_MEMORY) in ended.notes:
+                ways.add("cut")
+            elif ERROR in answers:
+                ways.add("told")
+            else:
+                same([answer.partition(" ")[0] for answer in answers], wanted, f"{what}: what client {client} hears")
+    holds(ways >= {"ended", "told"}, f"only this came: {ways}")
 
 
 @test(seconds=5)
