@@ -4,8 +4,7 @@ use crate::start_line::StartLine;
 use crate::tuning::{FIRST_TURN, LONGEST_TURN, MOST_ADMITTED, MOST_BYPASSING};
 use mlt_event::{Answer, Told};
 use mlt_object_kinds::ObjOp;
-use mlt_work_admission::{AdmissionQueue, AdmissionRules, AfterAnswer, PassHolder};
-use mlt_work_waits::{Gate, Notice};
+use mlt_work_waits::{AdmissionQueue, AdmissionRules, AfterAnswer, Gate, Notice, PassHolder};
 use std::sync::Wait;
 use std::time::Clock;
 

@@ -4,8 +4,8 @@ ghost use Rattle.std.specs.Prelude.{◌≡◌, true};
 ghost use Rattle.mlt_work_waits.specs.Gates.{is_to_wait};
 
 use crate::admission_queue::{AdmissionPass, AdmissionQueue};
+use crate::gate::is_to_wait;
 use mlt_event::Told;
-use mlt_work_waits::is_to_wait;
 use std::cell::Cell;
 use std::sync::Wait;
 use std::time::Clock;
