@@ -164,7 +164,7 @@ TWO: list[Section] = [
                 Block("mlt_work_desk/src/shared.rt", "Shared:state"),
                 Block("mlt_work_desk/src/locked_state.rt", "LockedState:manager,writer,logged,played"),
                 Block("mlt_work_desk/src/holds.rt", "LockedState.act():acts,seen LockedState.compare():first"),
-                Block("mlt_work_log/specs/Prefixes.antt", "StartsWith HasBegunWith"),
+                Block("mlt_work_desk/specs/Prefixes.antt", "StartsWith HasBegunWith"),
             ]),
     Section("What the manager has executed",
             "", [

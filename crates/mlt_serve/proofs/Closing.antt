@@ -12,7 +12,7 @@ use Rattle.mlt_trace.specs.declared.item.TraceItem.TheVariants.{Begin, Op, Back,
 use Rattle.mlt_trace_audit.specs.Agreement.{NumbersAgree, count_of}
 use Rattle.mlt_trace_check.specs.Traces.{told}
 use Rattle.mlt_serve_session.specs.Tallies.{commits_by, commits_told}
-use Rattle.mlt_work_log.specs.Prefixes.{times}
+use Rattle.mlt_work_desk.specs.Prefixes.{times}
 use Rattle.mlt_serve.proofs.Names.{TraceItem, Outcome, TellsOutcomes}
 use Rattle.mlt_serve.proofs.Counting.{as_often, count_same, counted_at, in_list, none_below, of_list, once_counted, times_of, times_other}
 use Rattle.mlt_serve.specs.{Tellings.HasClose, Tellings.HaveBegun, Tellings.HaveCloses, Tellings.TellsAll, Tellings.TellsEnd, Tellings.txs_of}

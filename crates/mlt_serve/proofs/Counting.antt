@@ -5,7 +5,7 @@ use Rattle.mlt_trace.specs.Numbers.{CountsFrom}
 use Rattle.mlt_trace.proofs.BegunLaws.{first_or_later}
 use Rattle.mlt_order.proofs.RunLemmas.{contains-first, contains-later, contains-nothing}
 use Rattle.mlt_trace_audit.specs.Agreement.{count_of}
-use Rattle.mlt_work_log.{specs.Prefixes.times, proofs.Moves.times_append}
+use Rattle.mlt_work_desk.{specs.Prefixes.times, proofs.LogMoves.times_append}
 use Rattle.mlt_serve.proofs.Names.{Outcome}
 use Rattle.mlt_serve.specs.{Tellings.HasBegunAll, Tellings.txs_of}
 

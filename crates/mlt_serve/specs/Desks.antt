@@ -3,8 +3,7 @@ use Rattle.std.specs.Prelude.{ℕ, ◌≡◌, ◌⊎◌, List, Result, All}
 use Rattle.mlt_types.specs.declared.refusal.Refusal.{Refusal}
 use Rattle.mlt_script_serial.specs.declared.{call.DeskAnswer.DeskAnswer, call.DeskCall.DeskCall, outcome.Outcome.Outcome}
 use Rattle.mlt_serve_session.specs.{Given.GaveAll, Sessions.Scene, Sessions.SessionAnswers, Sessions.scene, declared.sessions.Summary.Summary}
-use Rattle.mlt_work_desk.specs.{Holds.Answers, Tries.tries_of, Views.DeskView, Views.desk_view, declared.tries.Tries.Tries}
-use Rattle.mlt_work_log.specs.{Seats.begun_by, Seats.seen_by, declared.seats.LogSnapshot.LogSnapshot}
+use Rattle.mlt_work_desk.specs.{Holds.Answers, LogHandles.begun_by, LogHandles.seen_by, Tries.tries_of, Views.DeskView, Views.desk_view, declared.log_handles.LogSnapshot.LogSnapshot, declared.tries.Tries.Tries}
 use Rattle.mlt_serve.specs.Loads.{Ends}
 
 -- A begin was refused as one is to which memory is, and nothing has changed.

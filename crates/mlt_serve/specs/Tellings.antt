@@ -3,8 +3,7 @@ use Rattle.std.specs.Prelude.{◌≡◌, ◌≤◌, ℕ, List, All, Contains, ma
 use Rattle.mlt_trace.specs.{Numbers.begun_txs, declared.item.TraceItem.TraceItem}
 use Rattle.mlt_script_serial.specs.declared.outcome.{End.End, Outcome.Outcome}
 use Rattle.mlt_trace_audit.specs.{Agreement.count_of, Outcomes.ops_of}
-use Rattle.mlt_work_log.specs.Prefixes.{times}
-use Rattle.mlt_work_desk.specs.Views.{IsSubsequence}
+use Rattle.mlt_work_desk.specs.{Prefixes.times, Views.IsSubsequence}
 
 -- the transactions of the outcomes, in their order
 abbrev pub txs_of : List Outcome → List ℕ

@@ -1,7 +1,7 @@
 //! What all session threads have served, put together.
 
 ghost use Rattle.std.specs.Prelude.{◌≡◌, ◌+◌, ◌-◌, ◌*◌, ◌^◌, ◌≤◌, ◌++◌, [], IfErr, IfOk, IsPermutation, OnOk, false, min, vec_len};
-ghost use Rattle.mlt_work_log.specs.Seats.{IsOf, IsWriterOf, begun_by, id_of, past_of};
+ghost use Rattle.mlt_work_desk.specs.LogHandles.{IsOf, IsWriterOf, begun_by, id_of, past_of};
 ghost use Rattle.mlt_serve.specs.Clients.{AreOfClients};
 ghost use Rattle.mlt_serve.specs.Desks.{AreGiven};
 ghost use Rattle.mlt_serve.specs.Endings.{HasAccepted, IsOfServer, IsRefusedFor};
@@ -12,8 +12,7 @@ use crate::accepting::Accepting;
 use crate::session_thread::SessionThread;
 use mlt_serve_session::Receipts;
 use mlt_types::{Pseudo, Refusal};
-use mlt_work_desk::{MadeWith, Unlocked};
-use mlt_work_log::{HistoryLog, LogSnapshot, LogWriter};
+use mlt_work_desk::{HistoryLog, LogSnapshot, LogWriter, MadeWith, Unlocked};
 use std::alloc::{AllocError, Global};
 use std::sync::ledger::Share;
 

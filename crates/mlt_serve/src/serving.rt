@@ -2,7 +2,7 @@
 
 ghost use Rattle.std.specs.Prelude.{◌≡◌, ◌+◌, ◌<◌, ◌≤◌, IfErr, IfOk, IsOkUnless, Some, [], false, length, true};
 ghost use Rattle.mlt_manager.specs.Openings.{IsMadeWith};
-ghost use Rattle.mlt_work_log.specs.Seats.{id_of};
+ghost use Rattle.mlt_work_desk.specs.LogHandles.{id_of};
 ghost use Rattle.mlt_work_desk.specs.Makings.{making_by};
 ghost use Rattle.mlt_work_desk.specs.Playing.{IsPlayed};
 ghost use Rattle.mlt_work_desk.specs.declared.tries.Tries.TheVariants.{PerOperation};

@@ -1,7 +1,7 @@
 //! Sessions at a desk over a manager within limits that they meet, and with tries that they spend.
 
 ghost use Rattle.std.specs.Prelude.{◌≡◌, Some};
-ghost use Rattle.mlt_work_log.specs.Seats.{id_of};
+ghost use Rattle.mlt_work_desk.specs.LogHandles.{id_of};
 ghost use Rattle.mlt_work_desk.specs.Makings.{making_by};
 
 use crate::bounds::{Bounds, limits_of};

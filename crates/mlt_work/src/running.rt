@@ -1,7 +1,7 @@
 //! The scripts of all clients, by several workers.
 
 ghost use Rattle.std.specs.Prelude.{◌≡◌, ◌≤◌, ◌<◌, ◌⊎◌, [], false, IfErr, IfOk, Some};
-ghost use Rattle.mlt_work_log.specs.Seats.{id_of};
+ghost use Rattle.mlt_work_desk.specs.LogHandles.{id_of};
 ghost use Rattle.mlt_work_desk.specs.Makings.{making_by};
 ghost use Rattle.mlt_work_desk.specs.Playing.{IsPlayed};
 ghost use Rattle.mlt_work_desk.specs.declared.tries.Tries.TheVariants.{PerScript};

@@ -6,6 +6,6 @@ pub use Rattle.mlt_script_serial.specs.declared.call.{DeskAnswer.TheVariants.Abo
 pub use Rattle.mlt_trace.specs.declared.item.TraceItem.{TraceItem}
 pub use Rattle.mlt_types.specs.declared.refusal.Refusal.{Refusal}
 pub use Rattle.mlt_work_desk.specs.{Holds.EndsWithOp, Holds.IfReply, Holds.IsToldTo, Holds.SeesAnswer, Holds.SeesEvent}
-pub use Rattle.mlt_work_log.specs.{Prefixes.StartsWith, Seats.first_items}
+pub use Rattle.mlt_work_desk.specs.{Prefixes.StartsWith, LogHandles.first_items}
 pub use Rattle.mlt_work_waits.specs.{Turns.is_done, Waits.Waits, declared.turn.SleepingThread.SleepingThread, declared.wait.Awaited.Awaited, declared.wait.Waiting.Waiting}
 pub use Rattle.std.proofs.lemmas.Bool.{false≢true}

@@ -1,3 +1,5 @@
+pub mod Prefixes
+pub mod LogHandles
 pub mod Acts
 pub mod Holds
 pub mod Statistics

@@ -1,8 +1,7 @@
 -- What a desk has seen of the manager, and what it has made of that itself.
 use Rattle.std.specs.Prelude.{ℕ, ◌≡◌, ◌+◌, List, [], ◌∷◌, ◌++◌, length}
 use Rattle.mlt_event.specs.declared.{event.Event.Event, told.Told.Told}
-use Rattle.mlt_work_log.specs.{Seats.begun_by, Seats.seen_by, declared.seats.LogSnapshot.LogSnapshot, declared.seats.Past.Past}
-use Rattle.mlt_work_desk.specs.declared.tries.TriesLeft.{TriesLeft}
+use Rattle.mlt_work_desk.specs.{LogHandles.begun_by, LogHandles.seen_by, declared.log_handles.LogSnapshot.LogSnapshot, declared.log_handles.Past.Past, declared.tries.TriesLeft.TriesLeft}
 
 -- the first list is what is left of the other one without some of its elements
 abbrev pub IsSubsequence : {X : Type 0} → List X → List X → Type 0

@@ -1,10 +1,10 @@
 //! What contracts know of desks, before it is known of which.
 
 ghost use Rattle.std.specs.Prelude.{◌≡◌, IfOk};
-ghost use Rattle.mlt_work_log.specs.Prefixes.{no_past};
-ghost use Rattle.mlt_work_log.specs.Seats.{IsWriterOf, id_of, past_of};
+ghost use Rattle.mlt_work_desk.specs.Prefixes.{no_past};
+ghost use Rattle.mlt_work_desk.specs.LogHandles.{IsWriterOf, id_of, past_of};
 
-use mlt_work_log::{HistoryLog, LogWriter};
+use crate::log_handles::{HistoryLog, LogWriter};
 use std::alloc::{AllocError, Global};
 use std::sync::ledger::Blank;
 

@@ -2,8 +2,8 @@
 
 ghost use Rattle.std.specs.Prelude.{◌≡◌, ◌∷◌, ◌-◌, ◌^◌, [], min, true, false, IfSome};
 ghost use Rattle.mlt_script_serial.specs.Calls.{answer_by};
-ghost use Rattle.mlt_work_log.specs.Prefixes.{StartsWith};
-ghost use Rattle.mlt_work_log.specs.Seats.{IsOf, begun_by, first_items};
+ghost use Rattle.mlt_work_desk.specs.Prefixes.{StartsWith};
+ghost use Rattle.mlt_work_desk.specs.LogHandles.{IsOf, begun_by, first_items};
 ghost use Rattle.mlt_script_serial.specs.declared.call.DeskCall.TheVariants as call;
 ghost use Rattle.mlt_event.specs.declared.event.Event.TheVariants as event;
 ghost use Rattle.mlt_work_desk.specs.Holds.{EndsWithOp, HasBegun, IfReply, IsToldTo, MayAnswerOperation, SeesAnswer, SeesEvent};
@@ -12,6 +12,7 @@ ghost use Rattle.mlt_work_desk.specs.Tries.{GivesUp, IsYoungestOfCycle, StepsByT
 ghost use Rattle.mlt_work_desk.specs.Views.{HasMade, desk_view};
 
 use crate::lock_desk::LockDesk;
+use crate::log_handles::LogSnapshot;
 use crate::made_with::MadeWith;
 use crate::shared::Shared;
 use crate::tries::{Tries, TriesLeft};
@@ -19,7 +20,6 @@ use mlt_event::{Answer, Event, Told};
 use mlt_object_kinds::{ObjOp, ObjReply};
 use mlt_script_serial::{Answering, Desk, DeskAnswer};
 use mlt_types::{Pseudo, Refusal, TxId};
-use mlt_work_log::LogSnapshot;
 use mlt_work_waits::{Gate, Notice, SleepingThread, Turn, Wakers, goes_on, is_done};
 use std::sync::Wait;
 use std::sync::ledger::Share;

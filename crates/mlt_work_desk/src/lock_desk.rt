@@ -1,13 +1,13 @@
 //! The form of a desk over a shared manager.
 
 ghost use Rattle.std.specs.Prelude.{◌≡◌, ◌-◌, ◌^◌, [], min};
-ghost use Rattle.mlt_work_log.specs.Seats.{IsOf};
+ghost use Rattle.mlt_work_desk.specs.LogHandles.{IsOf};
 
+use crate::log_handles::LogSnapshot;
 use crate::made_with::MadeWith;
 use crate::shared::Shared;
 use crate::tries::TriesLeft;
 use mlt_types::Pseudo;
-use mlt_work_log::LogSnapshot;
 use mlt_work_waits::{Gate, SleepingThread, Wakers};
 use std::sync::Wait;
 use std::sync::ledger::Share;

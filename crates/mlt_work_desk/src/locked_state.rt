@@ -3,12 +3,12 @@
 ghost use Rattle.std.specs.Prelude.{◌≡◌, ◌-◌, ◌^◌, [], false, Some, min};
 ghost use Rattle.mlt_work_desk.specs.Makings.{making_of};
 ghost use Rattle.mlt_work_desk.specs.Playing.{ArePlayed};
-ghost use Rattle.mlt_work_log.specs.Seats.{IsWriterOf, past_of};
+ghost use Rattle.mlt_work_desk.specs.LogHandles.{IsWriterOf, past_of};
 
+use crate::log_handles::LogWriter;
 use crate::made_with::MadeWith;
 use mlt_manager::Manager;
 use mlt_types::Pseudo;
-use mlt_work_log::LogWriter;
 use mlt_work_waits::Desks;
 use std::sync::ledger::Book;
 

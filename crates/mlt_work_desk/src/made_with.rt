@@ -4,7 +4,7 @@ ghost use Rattle.std.specs.Prelude.{Bool, false, Option, None};
 ghost use Rattle.mlt_work_desk.specs.Makings.{Making};
 ghost use Rattle.mlt_work_desk.specs.declared.tries.Tries.{Tries};
 ghost use Rattle.mlt_work_desk.specs.declared.tries.Tries.TheVariants.{PerScript};
-ghost use Rattle.mlt_work_log.specs.Seats.{LogId, no_log};
+ghost use Rattle.mlt_work_desk.specs.LogHandles.{LogId, no_log};
 
 use std::marker::Brand;
 use std::sync::ledger::Ledger;

@@ -1,20 +1,20 @@
 //! The manager under its lock.
 
 ghost use Rattle.std.specs.Prelude.{◌≡◌, ◌-◌, ◌^◌, [], false, true, Some, min};
-ghost use Rattle.mlt_work_log.specs.Seats.{IsOf, begun_by, id_of, seen_by};
+ghost use Rattle.mlt_work_desk.specs.LogHandles.{IsOf, begun_by, id_of, seen_by};
 ghost use Rattle.mlt_work_desk.specs.Makings.{making_of};
 ghost use Rattle.mlt_work_desk.specs.Playing.{IsPlayed};
 
 use crate::locked_state::LockedState;
+use crate::log_handles::{HistoryLog, LogSnapshot};
 use crate::made_with::MadeWith;
 use crate::statistics::DeskStatistics;
-use crate::tuning::{LOCK_SPINS, PAUSES_PER_LOCK_SPIN};
 use crate::unlocked::Unlocked;
 use mlt_manager::{BaseImage, Manager};
 use mlt_page::Bucket;
 use mlt_trace::KeptItem;
 use mlt_types::{Pseudo, Refusal, TxId};
-use mlt_work_log::{HistoryLog, LogSnapshot};
+use mlt_work_waits::tuning::{LOCK_SPINS, PAUSES_PER_LOCK_SPIN};
 use mlt_work_waits::{SleepingThread, Waker, Wakers};
 use std::alloc::AllocError;
 use std::array;

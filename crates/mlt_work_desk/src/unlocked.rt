@@ -2,16 +2,16 @@
 
 ghost use Rattle.std.specs.Prelude.{◌≡◌, ◌≤◌, ◌-◌, ◌++◌, ◌^◌, ℕ, [], false, Some, min};
 ghost use Rattle.mlt_trace.specs.Numbers.{begun_txs};
-ghost use Rattle.mlt_work_log.specs.Prefixes.{StartsWith, times};
-ghost use Rattle.mlt_work_log.specs.Seats.{IsOf, begun_by, first_items, id_of};
+ghost use Rattle.mlt_work_desk.specs.Prefixes.{StartsWith, times};
+ghost use Rattle.mlt_work_desk.specs.LogHandles.{IsOf, begun_by, first_items, id_of};
 ghost use Rattle.mlt_work_desk.specs.Makings.{making_of};
 ghost use Rattle.mlt_work_desk.specs.Playing.{IsPlayed};
 
 use crate::locked_state::LockedState;
+use crate::log_handles::{HistoryLog, LogSnapshot};
 use crate::made_with::MadeWith;
 use mlt_manager::Manager;
 use mlt_types::Pseudo;
-use mlt_work_log::{HistoryLog, LogSnapshot};
 use std::sync::ledger::Share;
 
 /// What lay under a lock, and the log of the manager's history.

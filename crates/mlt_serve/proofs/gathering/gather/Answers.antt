@@ -2,7 +2,7 @@ use Rattle.std.proofs.Common.{rules, ◌≡◌, ◌≤◌, ◌++◌, ◌∙◌, 
 use Rattle.mlt_trace.specs.Numbers.{begun_txs}
 use Rattle.mlt_trace_audit.specs.Agreement.{count_of}
 use Rattle.mlt_manager.specs.Managers.{ManagerFields}
-use Rattle.mlt_work_log.specs.{Prefixes.times, Seats.begun_by}
+use Rattle.mlt_work_desk.specs.{Prefixes.times, LogHandles.begun_by}
 use Rattle.mlt_serve.proofs.Names.{All-push, IsPermutation-append_right, IsPermutation-trans, TellsOutcomes, AllHaveMemory, all_outcomes}
 use Rattle.mlt_serve.{specs.Threads.outcomes_of, proofs.Merging.behind_all, proofs.Merging.last_behind}
 use Rattle.mlt_serve.proofs.gathering.gather.Goals as goal

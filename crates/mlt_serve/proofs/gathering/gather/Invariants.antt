@@ -1,5 +1,5 @@
 use Rattle.std.proofs.Common.{◌≡◌, ◌+◌, ◌-◌, ◌*◌, ◌^◌, ◌++◌, vec_len, min, IsPermutation, false}
-use Rattle.mlt_work_log.specs.Seats.{IsOf, begun_by}
+use Rattle.mlt_work_desk.specs.LogHandles.{IsOf, begun_by}
 use Rattle.mlt_serve.specs.{Desks.AreGiven, Tellings.HasBegunAll}
 use Rattle.mlt_serve.proofs.Names.{AreOfClients, TellsOutcomes, AllHaveMemory, all_outcomes}
 use Rattle.mlt_serve.proofs.gathering.gather.Given as goal

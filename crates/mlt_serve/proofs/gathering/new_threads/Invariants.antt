@@ -1,5 +1,5 @@
 use Rattle.std.proofs.Common.{◌≡◌, ◌+◌, ◌*◌, vec_len}
-use Rattle.mlt_work_log.specs.Seats.{IsWriterOf, past_of}
+use Rattle.mlt_work_desk.specs.LogHandles.{IsWriterOf, past_of}
 use Rattle.mlt_serve.proofs.gathering.new_threads.Given as goal
 
 abbrev pub invariant-loop : goal.invariant-loop

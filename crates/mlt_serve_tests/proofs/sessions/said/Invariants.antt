@@ -1,6 +1,5 @@
 use Rattle.std.proofs.Common.{false, Some}
-use Rattle.mlt_work_log.specs.Seats.{id_of}
-use Rattle.mlt_work_desk.specs.{Makings.making_by, declared.tries.Tries.TheVariants.PerOperation}
+use Rattle.mlt_work_desk.specs.{LogHandles.id_of, Makings.making_by, declared.tries.Tries.TheVariants.PerOperation}
 use Rattle.mlt_serve_tests.proofs.sessions.said.Given as goal
 
 abbrev pub ghosts-said_over-L-Ledger : goal.ghosts-said_over-L-Ledger

@@ -1,6 +1,6 @@
 use Rattle.std.proofs.Common.{rules, ◌++◌, IsPermutation}
 use Rattle.mlt_serve.proofs.Names.{first_items}
-use Rattle.mlt_work_log.specs.Seats.{begun_by}
+use Rattle.mlt_work_desk.specs.LogHandles.{begun_by}
 use Rattle.mlt_serve.proofs.{Counting.both_begun, Telling.both_told}
 use Rattle.mlt_serve.proofs.gathering.Gathered.take_in.Goals as goal
 

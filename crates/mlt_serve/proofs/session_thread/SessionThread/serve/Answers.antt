@@ -1,7 +1,6 @@
 use Rattle.std.proofs.Common.{rules, ◌≡◌, ◌∙◌, ap, subst, sym}
 use Rattle.mlt_serve.proofs.Names.{StartsWith, first_items, AreOfClients, GrowsFor, TellsOutcomes}
-use Rattle.mlt_work_log.specs.Seats.{begun_by, seen_by}
-use Rattle.mlt_work_desk.specs.{Tries.tries_of, Views.DeskView, Views.desk_view, declared.tries.Tries.TheVariants.PerOperation, declared.tries.TriesLeft.TriesLeft}
+use Rattle.mlt_work_desk.specs.{LogHandles.begun_by, LogHandles.seen_by, Tries.tries_of, Views.DeskView, Views.desk_view, declared.tries.Tries.TheVariants.PerOperation, declared.tries.TriesLeft.TriesLeft}
 use Rattle.mlt_serve_session.specs.Sessions.{SessionAnswers}
 use Rattle.mlt_serve.specs.{Desks.AnswersOrHolds, Desks.scene_at, Loads.ends, Tellings.txs_of}
 use Rattle.mlt_serve.proofs.{Numbering.grown, Receiving.begins_on, Receiving.given_on, Receiving.grows, Receiving.hears, Receiving.sees_on, Telling.grown_told, Viewing.session_of}

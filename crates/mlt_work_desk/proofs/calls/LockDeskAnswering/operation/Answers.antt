@@ -1,9 +1,8 @@
 use Rattle.std.proofs.Common.{rules, ◌≡◌, ◌∙◌, ◌∷◌, [], All, ap, false, refl, subst}
 use Rattle.std.proofs.lemmas.List.Elements.{All-nil}
-use Rattle.mlt_work_log.specs.Seats.{begun_by, seen_by}
+use Rattle.mlt_work_desk.specs.{Acts.IsStepOf, Holds.MayAnswerOperation, LogHandles.begun_by, LogHandles.seen_by, Tries.tries_called, Views.desk_view}
 use Rattle.mlt_script_serial.specs.Calls.{answer_by}
 use Rattle.mlt_work_desk.proofs.Names.{Replied, DeskCall, Event, StartsWith, first_items, SeesAnswer}
-use Rattle.mlt_work_desk.specs.{Acts.IsStepOf, Holds.MayAnswerOperation, Tries.tries_called, Views.desk_view}
 use Rattle.mlt_work_desk.proofs.{Seeing.sees_later, Seeing.sees_more, Seeing.sees_refused, Trying.made_from, Trying.made_more, Trying.spends_before, Trying.spends_behind}
 use Rattle.mlt_work_waits.specs.Gates.{is_to_wait}
 use Rattle.mlt_work_desk.proofs.calls.LockDeskAnswering.operation.Goals as goal

@@ -1,7 +1,6 @@
 use Rattle.std.proofs.Common.{rules, ◌≡◌, ◌∙◌, false, true, ◌∷◌, [], ap, refl, subst, sym}
 use Rattle.mlt_work_desk.proofs.Names.{Event, Told, StartsWith, first_items}
-use Rattle.mlt_work_log.specs.Seats.{begun_by, seen_by}
-use Rattle.mlt_work_desk.specs.{Acts.AreUndoSteps, Acts.FollowAbort, Views.desk_view}
+use Rattle.mlt_work_desk.specs.{Acts.AreUndoSteps, Acts.FollowAbort, LogHandles.begun_by, LogHandles.seen_by, Views.desk_view}
 use Rattle.mlt_work_desk.proofs.{Seeing.more_than, Seeing.sees_abort, Seeing.sees_more, Trying.made_from, Trying.made_more}
 use Rattle.mlt_work_desk.proofs.calls.LockDeskDesk.abort.Goals as goal
 

@@ -1,7 +1,6 @@
 use Rattle.std.proofs.Common.{rules, ◌∙◌, ◌∷◌, [], refl, subst}
 use Rattle.mlt_work_desk.proofs.Names.{Event, first_items, IsToldTo, SeesEvent}
-use Rattle.mlt_work_log.specs.Seats.{begun_by}
-use Rattle.mlt_work_desk.specs.Holds.{HasBegun}
+use Rattle.mlt_work_desk.specs.{Holds.HasBegun, LogHandles.begun_by}
 use Rattle.mlt_work_desk.proofs.{Seeing.sees_begun, Seeing.sees_more, Seeing.sees_refused, Trying.made_from}
 use Rattle.mlt_work_desk.proofs.calls.LockDeskDesk.begin.Goals as goal
 

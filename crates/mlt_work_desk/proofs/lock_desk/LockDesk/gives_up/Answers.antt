@@ -1,5 +1,5 @@
 use Rattle.std.proofs.Common.{ap}
-use Rattle.mlt_work_log.specs.Seats.{seen_by}
+use Rattle.mlt_work_desk.specs.LogHandles.{seen_by}
 use Rattle.mlt_work_desk.proofs.Trying.{without_steps}
 use Rattle.mlt_work_desk.proofs.lock_desk.LockDesk.gives_up.Goals as goal
 

@@ -2,7 +2,7 @@ use Rattle.std.proofs.Common.{rules, ◌≡◌, ◌≢◌, ◌∙◌, List, [], 
 use Rattle.mlt_work_desk.proofs.Names.{first_items, EndsWithOp, is_done}
 use Rattle.mlt_work_waits.specs.Turns.{goes_on}
 use Rattle.mlt_work_desk.proofs.{Cycles.youngest_of_cycle, Going.wakes_none, Replying.reply_not_done, Replying.reply_then, Trying.has_made, lock_desk.LockDesk.hold.Goals.then-is_done, lock_desk.LockDesk.hold.Goals.else-is_done, lock_desk.LockDesk.hold.Goals.then-not-is_empty, lock_desk.LockDesk.hold.Goals.else-not-is_empty}
-use Rattle.mlt_work_log.specs.declared.seats.Past.{Past}
+use Rattle.mlt_work_desk.specs.declared.log_handles.Past.{Past}
 use Rattle.mlt_work_desk.proofs.lock_desk.LockDesk.hold.Goals as goal
 
 pub returns-clause-another : goal.returns-clause-another

@@ -1,7 +1,6 @@
 use Rattle.std.proofs.Common.{◌≡◌}
 use Rattle.mlt_work_desk.proofs.Names.{StartsWith, first_items}
-use Rattle.mlt_work_desk.specs.{Tries.StepsByTries, Views.desk_view}
-use Rattle.mlt_work_log.specs.Seats.{begun_by}
+use Rattle.mlt_work_desk.specs.{LogHandles.begun_by, Tries.StepsByTries, Views.desk_view}
 use Rattle.mlt_work_desk.proofs.lock_desk.LockDesk.steps.Given as goal
 
 -- it has seen what it had seen, is in the same operation, has spent its tries by waits, and has begun nothing

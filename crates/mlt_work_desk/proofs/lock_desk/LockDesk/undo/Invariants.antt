@@ -1,7 +1,6 @@
 use Rattle.std.proofs.Common.{◌≡◌, List, All}
 use Rattle.mlt_work_desk.proofs.Names.{Event, Told, StartsWith, first_items}
-use Rattle.mlt_work_log.specs.Seats.{begun_by}
-use Rattle.mlt_work_desk.specs.Views.{HasMade, desk_view}
+use Rattle.mlt_work_desk.specs.{LogHandles.begun_by, Views.HasMade, Views.desk_view}
 use Rattle.mlt_work_desk.proofs.lock_desk.LockDesk.undo.Given as goal
 
 -- it has seen what it had seen, takes back the same transaction, has its tries, has begun nothing, and has made steps alone

@@ -1,8 +1,7 @@
 use Rattle.std.proofs.Common.{◌≡◌, ◌∙◌, ◌+◌, ◌-◌, ◌^◌, ◌++◌, Some, ap, min, arith, sym}
 use Rattle.mlt_work_desk.proofs.{Adding.event_adds, Adding.event_begins, Adding.has_begun, Counting.one_event, Counting.same_making, Playing.still_played, Replying.keeps_reply}
 use Rattle.mlt_trace.specs.Numbers.{begun_txs}
-use Rattle.mlt_work_log.specs.declared.seats.Past.{Past}
-use Rattle.mlt_work_desk.specs.Holds.{txs_begun}
+use Rattle.mlt_work_desk.specs.{Holds.txs_begun, declared.log_handles.Past.Past}
 use Rattle.mlt_work_desk.proofs.locked_state.LockedState.act.Goals as goal
 
 pub invariant_of-self-clause-counted : goal.invariant_of-self-clause-counted

@@ -1,5 +1,4 @@
-use Rattle.mlt_work_log.specs.{Prefixes.after_act, Seats.past_of}
-use Rattle.mlt_work_desk.specs.Holds.{txs_begun}
+use Rattle.mlt_work_desk.specs.{Holds.txs_begun, LogHandles.past_of, Prefixes.after_act}
 use Rattle.mlt_work_desk.proofs.locked_state.LockedState.act.Given as goal
 
 abbrev pub ghosts-see_act : goal.ghosts-see_act

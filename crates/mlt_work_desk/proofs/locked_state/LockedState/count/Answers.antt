@@ -1,6 +1,6 @@
 use Rattle.std.proofs.Common.{◌≤◌, subst}
 use Rattle.mlt_trace.specs.Numbers.{begun_txs}
-use Rattle.mlt_work_log.specs.{Prefixes.times, Seats.begun_by}
+use Rattle.mlt_work_desk.specs.{Prefixes.times, LogHandles.begun_by}
 use Rattle.mlt_work_desk.proofs.locked_state.LockedState.count.Goals as goal
 
 pub returns-clause-counted : goal.returns-clause-counted

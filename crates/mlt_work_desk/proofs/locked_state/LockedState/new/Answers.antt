@@ -1,5 +1,5 @@
 use Rattle.std.proofs.Common.{ap, subst, sym}
-use Rattle.mlt_work_log.specs.declared.seats.Past.{Past}
+use Rattle.mlt_work_desk.specs.declared.log_handles.Past.{Past}
 use Rattle.mlt_work_desk.{specs.Playing.ArePlayed, proofs.Playing.new_played}
 use Rattle.mlt_work_desk.proofs.locked_state.LockedState.new.Goals as goal
 

@@ -1,8 +1,9 @@
-//! What a seat knows, the rule of all that seats know, and the seats of who adds to the past and of who has seen it.
+//! The log of a manager as contracts know it: what a handle of it knows, the rule of all that handles know, and the handles of who adds to
+//! the past and of who has seen it.
 
 ghost use Rattle.std.specs.Prelude.{◌≡◌, [], ℕ, List};
-ghost use Rattle.mlt_work_log.specs.Prefixes.{no_past, snapshot_view, writer_view};
-ghost use Rattle.mlt_work_log.specs.declared.seats.Past.{Past};
+ghost use Rattle.mlt_work_desk.specs.Prefixes.{no_past, snapshot_view, writer_view};
+ghost use Rattle.mlt_work_desk.specs.declared.log_handles.Past.{Past};
 
 use atomic_table::{Join, Play, Seat, Split, Table, TableRule};
 use mlt_event::{Event, Told};
@@ -18,8 +19,8 @@ pub struct Past {
     pub items: LinkedList<TraceItem>,
 }
 
-/// What a seat knows: whether it is the writer's, the past that it knows, that of a snapshot that it has taken in, and the transactions
-/// that its holder has begun. No transaction is among those of two seats. Contracts alone speak of it; no value of it is made.
+/// What a handle knows: whether it is the writer's, the past that it knows, that of a snapshot that it has taken in, and the transactions
+/// that its holder has begun. No transaction is among those of two handles. Contracts alone speak of it; no value of it is made.
 pub struct LogView {
     pub writes: bool,
     pub past: Past,
@@ -27,11 +28,11 @@ pub struct LogView {
     pub begun: LinkedList<u64>,
 }
 
-/// The writer knows the whole past, and any other seat one that it began with.
+/// The writer knows the whole past, and any other handle one that it began with.
 pub struct Prefixes;
 
 impl TableRule<(), LogView, ()> for Prefixes {
-    ghost use Rattle.mlt_work_log.specs.Prefixes.{AreKept, first_view};
+    ghost use Rattle.mlt_work_desk.specs.Prefixes.{AreKept, first_view};
 
     ghost holds = { λ _ state. AreKept state.views };
 
@@ -39,7 +40,7 @@ impl TableRule<(), LogView, ()> for Prefixes {
 }
 
 impl Split<LogView> for Prefixes {
-    ghost use Rattle.mlt_work_log.specs.Prefixes.{snapshot_view};
+    ghost use Rattle.mlt_work_desk.specs.Prefixes.{snapshot_view};
 
     ghost left = { λ v. v };
 
@@ -50,7 +51,7 @@ impl Split<LogView> for Prefixes {
 pub struct HandsOver;
 
 impl Split<LogView> for HandsOver {
-    ghost use Rattle.mlt_work_log.specs.Prefixes.{snapshot_view, without_begun};
+    ghost use Rattle.mlt_work_desk.specs.Prefixes.{snapshot_view, without_begun};
 
     ghost left = { λ v. without_begun v };
 
@@ -61,7 +62,7 @@ impl Split<LogView> for HandsOver {
 pub struct Gathers;
 
 impl Join<LogView> for Gathers {
-    ghost use Rattle.mlt_work_log.specs.Prefixes.{after_gathering, spent_view};
+    ghost use Rattle.mlt_work_desk.specs.Prefixes.{after_gathering, spent_view};
 
     ghost both = { λ v w. after_gathering v w };
 
@@ -69,7 +70,7 @@ impl Join<LogView> for Gathers {
 }
 
 impl Join<LogView> for Prefixes {
-    ghost use Rattle.mlt_work_log.specs.Prefixes.{after_join, spent_view};
+    ghost use Rattle.mlt_work_desk.specs.Prefixes.{after_join, spent_view};
 
     ghost both = { λ v w. after_join v w };
 
@@ -97,7 +98,7 @@ pub struct Grows<G> {
 
 impl<G: Growth> Play<(), LogView> for Grows<G> {
     ghost use Rattle.std.specs.Prelude.{◌≡◌};
-    ghost use Rattle.mlt_work_log.specs.Prefixes.{HasGrown};
+    ghost use Rattle.mlt_work_desk.specs.Prefixes.{HasGrown};
 
     ghost then = { λ step me word after. HasGrown G.past G.begun me.0 after.0 × (after.1 ≡ me.1) };
 }
@@ -107,7 +108,7 @@ pub struct Counts;
 
 impl Play<(), LogView> for Counts {
     ghost use Rattle.std.specs.Prelude.{◌≡◌};
-    ghost use Rattle.mlt_work_log.specs.Prefixes.{HasCounted};
+    ghost use Rattle.mlt_work_desk.specs.Prefixes.{HasCounted};
 
     ghost then = { λ step me word after. HasCounted me.0 after.0 × (after.1 ≡ me.1) };
 }

@@ -1,8 +1,8 @@
--- Seats of a log.
+-- Handles of a log.
 use Rattle.std.specs.Prelude.{◌≡◌, ℕ, List, []}
 use Rattle.atomic_table.specs.Seated.{TableId}
 use Rattle.mlt_trace.specs.declared.item.TraceItem.{TraceItem}
-use Rattle.mlt_work_log.specs.declared.seats.{HistoryLog.HistoryLog, LogSnapshot.LogSnapshot, LogWriter.LogWriter, Past.Past}
+use Rattle.mlt_work_desk.specs.declared.log_handles.{HistoryLog.HistoryLog, LogSnapshot.LogSnapshot, LogWriter.LogWriter, Past.Past}
 
 -- what tells a log from others
 abbrev pub LogId : Type 0

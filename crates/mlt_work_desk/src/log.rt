@@ -2,10 +2,10 @@
 
 ghost use Rattle.std.specs.Prelude.{◌≡◌, ◌≤◌, ◌++◌, [], ℕ, IfOk};
 ghost use Rattle.mlt_trace.specs.Numbers.{begun_txs};
-ghost use Rattle.mlt_work_log.specs.Prefixes.{HasBegunWith, no_past, times};
-ghost use Rattle.mlt_work_log.specs.Seats.{IsOf, IsWriterOf, begun_by, id_of, past_of, seen_by};
+ghost use Rattle.mlt_work_desk.specs.Prefixes.{HasBegunWith, no_past, times};
+ghost use Rattle.mlt_work_desk.specs.LogHandles.{IsOf, IsWriterOf, begun_by, id_of, past_of, seen_by};
 
-use crate::seats::{
+use crate::log_handles::{
     Counts, Gathers, Grows, Growth, HandsOver, HistoryLog, LogSnapshot, LogWriter, Prefixes,
 };
 use atomic_table::Table;

@@ -1,6 +1,6 @@
 use Rattle.std.proofs.Common.{rules}
-use Rattle.mlt_work_log.proofs.Moves.{splits}
-use Rattle.mlt_work_log.proofs.seats.HistoryLog.snapshot.Goals as goal
+use Rattle.mlt_work_desk.proofs.LogMoves.{splits}
+use Rattle.mlt_work_desk.proofs.log_handles.HistoryLog.copy.Goals as goal
 
 pub split_seat-seat-requires : goal.split_seat-seat-requires
 split_seat-seat-requires c = (search rules, search rules, splits _ _)

@@ -6,8 +6,8 @@ use lib.ListN.{get_elem?}
 use Rattle.atomic_table.specs.Table.{State, Me, Allows, Splits, Joins}
 use Rattle.atomic_table.{specs.Table.Act.keeps, proofs.Lists.at_set, proofs.Lists.at_snoc, proofs.Lists.set_else}
 use Rattle.mlt_trace.specs.Numbers.{begun_txs}
-use Rattle.mlt_work_log.specs.declared.seats.{LogView.LogView, Past.Past}
-use Rattle.mlt_work_log.specs.Prefixes.{AreKept, HasBegunWith, HasCounted, HasGrown, Knows, StartsWith, after_gathering, after_join, first_view, no_past, snapshot_view, spent_view, times, view, without_begun, writer_view}
+use Rattle.mlt_work_desk.specs.declared.log_handles.{LogView.LogView, Past.Past}
+use Rattle.mlt_work_desk.specs.Prefixes.{AreKept, HasBegunWith, HasCounted, HasGrown, Knows, StartsWith, after_gathering, after_join, first_view, no_past, snapshot_view, spent_view, times, view, without_begun, writer_view}
 
 itself : {A : Type 0} (xs : List A) → StartsWith xs xs
 itself xs = ([], sym (append-nil xs))
@@ -36,7 +36,7 @@ module _ (tx : ℕ) where
   abbrev of_view : LogView → ℕ
   of_view v = times tx v.begun
 
-  -- the sum over all seats, after a change of one, and with a new one
+  -- the sum over all handles, after a change of one, and with a new one
   all_set : (views : List LogView) (seat : ℕ) (v w : LogView) → get_elem? views seat ≡ some v → times_of_all tx (set views seat w) + of_view v ≡ times_of_all tx views + of_view w
   all_set [] seat v w at = absurd (some-ne-none v (sym at))
   all_set (x ∷ xs) zero v w at =
@@ -56,9 +56,9 @@ module _ (tx : ℕ) where
       let last = sum_by-cons of_view w [] in
       omega (arith, one, last)
 
--- ---- what each seat knows
+-- ---- what each handle knows
 
--- what each seat knows, after a change of one
+-- what each handle knows, after a change of one
 each_set : (past : Past) (writer : ℕ) (views : List LogView) (seat : ℕ) (w : LogView) → Knows past writer seat w
     → ((j : ℕ) (u : LogView) → j ≢ seat → get_elem? views j ≡ some u → Knows past writer j u)
     → (j : ℕ) (u : LogView) → get_elem? (set views seat w) j ≡ some u → Knows past writer j u
@@ -135,7 +135,7 @@ counts slots seat me writes s (all, writer, each, counted) homes at small =
       ),
     )
 
--- a snapshot is made of what a seat knows, and has some of what that has begun
+-- a snapshot is made of what a handle knows, and has some of what that has begun
 splits_so : (seat : ℕ) (v left : LogView) (begun : List ℕ) → ((past : Past) (writer : ℕ) → Knows past writer seat v → Knows past writer seat left)
     → ((tx : ℕ) → times tx left.begun + times tx begun ≡ times tx v.begun)
     → Splits (λ (s : State (Unit {0}) LogView). AreKept s.views) seat v left (snapshot_view v.past begun)
@@ -187,7 +187,7 @@ joins seat other v w = joins_so seat other v w (after_join v w) (λ past writer 
 pub gathers : (seat other : ℕ) (v w : LogView) → Joins (λ (s : State (Unit {0}) LogView). AreKept s.views) seat v other w (after_gathering v w) spent_view
 gathers seat other v w = joins_so seat other v w (after_gathering v w) (λ past writer mine theirs. record { first = mine.first; taken = mine.taken; all = mine.all }) refl
 
--- the first seat is the writer's, of no past
+-- the first handle is the writer's, of no past
 first_is : (u : LogView) → some first_view ≡ some u → first_view ≡ u
 first_is u is = some-injective first_view u is
 

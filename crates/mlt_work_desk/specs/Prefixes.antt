@@ -1,10 +1,10 @@
--- What threads have seen of a past that only grows: what a seat knows, the rule, and the kinds of step.
+-- What threads have seen of a past that only grows: what a handle knows, the rule, and the kinds of step.
 use Rattle.std.specs.Prelude.{◌≡◌, ◌==◌, ◌≤◌, ℕ, List, [], ◌∷◌, ◌++◌, Bool, true, false, count_by, sum_by}
 use mathlib.Core.Option.{some}
 use lib.ListN.{get_elem?}
 use Rattle.mlt_event.specs.declared.{event.Event.Event, told.Told.Told}
 use Rattle.mlt_trace.specs.{Numbers.begun_txs, declared.item.TraceItem.TraceItem}
-use Rattle.mlt_work_log.specs.declared.seats.{LogView.LogView, Past.Past}
+use Rattle.mlt_work_desk.specs.declared.log_handles.{LogView.LogView, Past.Past}
 
 -- these are the first ones of a list
 abbrev pub StartsWith : {A : Type 0} → List A → List A → Type 0
@@ -23,7 +23,7 @@ pub record HasBegunWith (past first : Past) : Type 0 where
   pub acts : StartsWith past.acts first.acts
   pub items : StartsWith past.items first.items
 
--- what a seat knows, by its fields in order
+-- what a handle knows, by its fields in order
 abbrev pub view : Bool → Past → Past → List ℕ → LogView
 view writes past taken begun = record { writes = writes; past = past; taken = taken; begun = begun }
 
@@ -35,7 +35,7 @@ writer_view past = view true past no_past []
 abbrev pub snapshot_view : Past → List ℕ → LogView
 snapshot_view past begun = view false past no_past begun
 
--- Of this past, a seat knows the beginning, as does a snapshot that it has taken in. Just one seat is the writer's, and that knows all.
+-- Of this past, a handle knows the beginning, as does a snapshot that it has taken in. Just one handle is the writer's, and that knows all.
 pub record Knows (past : Past) (writer seat : ℕ) (v : LogView) : Type 0 where
   pub first : HasBegunWith past v.past
   pub taken : HasBegunWith past v.taken
@@ -45,7 +45,7 @@ pub record Knows (past : Past) (writer seat : ℕ) (v : LogView) : Type 0 where
 abbrev pub times : ℕ → List ℕ → ℕ
 times tx txs = count_by (λ x. x == tx) txs
 
--- The rule of all views: there is such a past, and a writer of it; and all seats together have begun no transaction more often than that has.
+-- The rule of all views: there is such a past, and a writer of it; and all handles together have begun no transaction more often than that has.
 abbrev pub AreKept : List LogView → Type 0
 AreKept views = (past : Past) × (writer : ℕ)
     × ((seat : ℕ) (v : LogView) → get_elem? views seat ≡ some v → Knows past writer seat v)
@@ -55,19 +55,19 @@ AreKept views = (past : Past) × (writer : ℕ)
 abbrev pub first_view : LogView
 first_view = writer_view no_past
 
--- Seat joined: the writer takes in what a snapshot knows, and what it has begun.
+-- Handle joined: the writer takes in what a snapshot knows, and what it has begun.
 abbrev pub after_join : LogView → LogView → LogView
 after_join v w = view v.writes v.past w.past (v.begun ++ w.begun)
 
--- Seat joined: the one takes in what the other has begun.
+-- Handle joined: the one takes in what the other has begun.
 abbrev pub after_gathering : LogView → LogView → LogView
 after_gathering v w = view v.writes v.past v.taken (v.begun ++ w.begun)
 
--- The view of the seat that was taken in.
+-- The view of the handle that was taken in.
 abbrev pub spent_view : LogView
 spent_view = snapshot_view no_past []
 
--- Seat split: what the writer has begun goes to the new one.
+-- Handle split: what the writer has begun goes to the new one.
 abbrev pub without_begun : LogView → LogView
 without_begun v = view v.writes v.past v.taken []
 

@@ -1,7 +1,7 @@
 use Rattle.std.proofs.Common.{rules, ◌≡◌, ◌++◌, ◌∙◌, ap, subst, sym}
 use Rattle.mlt_trace.specs.Numbers.{begun_txs}
-use Rattle.mlt_work_log.{specs.declared.seats.LogView.LogView, specs.declared.seats.Past.Past, specs.Prefixes.HasBegunWith, proofs.Moves.grows, proofs.Moves.hands_over, proofs.Moves.joins}
-use Rattle.mlt_work_log.proofs.seats.HistoryLog.see.Goals as goal
+use Rattle.mlt_work_desk.{specs.declared.log_handles.LogView.LogView, specs.declared.log_handles.Past.Past, specs.Prefixes.HasBegunWith, proofs.LogMoves.grows, proofs.LogMoves.hands_over, proofs.LogMoves.joins}
+use Rattle.mlt_work_desk.proofs.log_handles.HistoryLog.see.Goals as goal
 
 pub join_seat-requires : goal.join_seat-requires
 join_seat-requires g c = (search rules, search rules, search rules, search rules, joins _ _ _ _)

@@ -1,8 +1,8 @@
 use Rattle.std.proofs.Common.{rules, ◌≡◌, ◌≤◌, ◌++◌, ◌∙◌, ap, subst}
 use Rattle.mlt_trace.specs.Numbers.{begun_txs}
-use Rattle.mlt_work_log.specs.{Prefixes.times, Seats.begun_by, Seats.past_of, declared.seats.LogView.LogView, declared.seats.Past.Past}
-use Rattle.mlt_work_log.proofs.Moves.{counts, joins}
-use Rattle.mlt_work_log.proofs.seats.HistoryLog.count.Goals as goal
+use Rattle.mlt_work_desk.specs.{Prefixes.times, LogHandles.begun_by, LogHandles.past_of, declared.log_handles.LogView.LogView, declared.log_handles.Past.Past}
+use Rattle.mlt_work_desk.proofs.LogMoves.{counts, joins}
+use Rattle.mlt_work_desk.proofs.log_handles.HistoryLog.count.Goals as goal
 
 pub join_seat-requires : goal.join_seat-requires
 join_seat-requires c = (search rules, search rules, search rules, search rules, joins _ _ _ _)
