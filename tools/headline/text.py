@@ -184,7 +184,7 @@ TWO: list[Section] = [
                 Block("mlt_serve/src/serving.rt", "serve_on():history,played,outcomes,clients,order"),
                 Block("mlt_manager/src/manager.rt", "Manager.history():some,none"),
                 Block("mlt_script_serial/src/outcome.rt", "Outcome End"),
-                Block("mlt_work_clients/specs/Places.antt", "AreAllOutcomes"),
+                Block("mlt_work/specs/Places.antt", "AreAllOutcomes"),
                 Block("mlt_script_serial/specs/Clients.antt", "AreOutcomes IsOutcome"),
                 Block("mlt_script_serial/specs/DeskRuns.antt", "HasEndedAs"),
             ]),

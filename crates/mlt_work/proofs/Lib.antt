@@ -1,4 +1,6 @@
+pub mod ClaimMoves
 pub mod GivenTries
+pub mod Placing
 pub mod Refusals
 pub mod SameOutcomes
 pub mod Texts

@@ -3,8 +3,7 @@ use Rattle.std.proofs.Common.{List, [], ◌∷◌, Bool}
 use Rattle.std.proofs.lemmas.List.Elements.{All-weaker}
 use Rattle.mlt_script.specs.Scripts.{ScriptForm}
 use Rattle.mlt_script_serial.specs.declared.outcome.Outcome.{Outcome}
-use Rattle.mlt_work_clients.specs.{ClientOutcomes.OutcomeRelation, Places.AreAllOutcomes, Places.IsClientRun, Workers.HasWorked, declared.forms.ClientRun.ClientRun, declared.seats.ClaimHandle.ClaimHandle, declared.seats.ClientCounter.ClientCounter}
-use Rattle.mlt_work.specs.Runs.{AreSame}
+use Rattle.mlt_work.specs.{ClientOutcomes.OutcomeRelation, Places.AreAllOutcomes, Places.IsClientRun, Runs.AreSame, Workers.HasWorked, declared.claim_handles.ClaimHandle.ClaimHandle, declared.claim_handles.ClientCounter.ClientCounter, declared.forms.ClientRun.ClientRun}
 
 module _ (one other : OutcomeRelation) (same : AreSame one other) where
   -- a worker's runs

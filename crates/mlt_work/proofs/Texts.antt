@@ -2,10 +2,9 @@
 use Rattle.std.proofs.Common.{◌≡◌, ◌∙◌, ◌++◌, ℕ, List, ap, map, refl, subst}
 use Rattle.std.{proofs.lemmas.List.map-append, specs.Global.Vec}
 use Rattle.mlt_script.specs.{Grammar.Spells, declared.script.Script.Script, Clients.parts_of, Scripts.ScriptForm}
-use Rattle.mlt_work_clients.specs.Places.{scripts_of_clients}
+use Rattle.mlt_work.specs.{Places.scripts_of_clients, RunTexts.IsRunText, Runs.HasRunAll, declared.running.RunOptions.RunOptions}
 use Rattle.mlt_script_serial.specs.{declared.report.ReportForm.TheVariants.Run, declared.report.Report.Report, Texts.report_text}
 use Rattle.mlt_manager.specs.Managers.{ManagerFields}
-use Rattle.mlt_work.specs.{Runs.HasRunAll, RunTexts.IsRunText, declared.running.RunOptions.RunOptions}
 
 -- the report of the scripts that were read, parted by client, is that of the input
 pub run_text : {P : Type 0} (bits_of : P → ℕ → ℕ) (options : RunOptions) (pseudo : P) (seen input : List ℕ)

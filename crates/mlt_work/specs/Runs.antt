@@ -6,8 +6,7 @@ use Rattle.mlt_script_serial.specs.{Clients.AreOutcomes, Clients.AreRunsAt, decl
 use Rattle.mlt_trace_audit.specs.{Agreement.Agrees, Committed.IsBaseOfOutcomes}
 use Rattle.mlt_manager.specs.{Managers.ManagerFields, Openings.IsMadeWith}
 use Rattle.mlt_work_desk.specs.{Holds.Answers, Views.DeskView, declared.tries.Tries.Tries, declared.tries.Tries.TheVariants.PerScript}
-use Rattle.mlt_work_clients.specs.{ClientOutcomes.OutcomeRelation, Places.AreAllOutcomes}
-use Rattle.mlt_work.specs.declared.running.RunOptions.{RunOptions}
+use Rattle.mlt_work.specs.{ClientOutcomes.OutcomeRelation, Places.AreAllOutcomes, declared.running.RunOptions.RunOptions}
 
 -- what a script may be refused with
 abbrev pub IsScriptRefusal : Refusal → Type 0

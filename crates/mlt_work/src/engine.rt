@@ -6,7 +6,7 @@ ghost use Rattle.mlt_types.specs.declared.refusal.ScriptCause.{ScriptCause};
 ghost use Rattle.mlt_text.specs.Failures.{FailsCleanly, IsScriptFault, IsWant};
 ghost use Rattle.mlt_text.specs.Inputs.{GivesWhole};
 ghost use Rattle.mlt_script.specs.Grammar.{IsFirstFault};
-ghost use Rattle.mlt_work_clients.specs.Places.{scripts_of_clients};
+ghost use Rattle.mlt_work.specs.Places.{scripts_of_clients};
 ghost use Rattle.mlt_work.specs.RunTexts.{IsRunOf, IsRunText};
 
 use crate::running::{RunOptions, run};

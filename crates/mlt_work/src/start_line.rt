@@ -1,6 +1,6 @@
 //! How workers begin side by side.
 
-use crate::tuning::START_MILLISECONDS;
+use mlt_work_waits::tuning::START_MILLISECONDS;
 use std::sync::{Condvar, CondvarTimeouts, Mutex, Wait};
 use std::time::{Clock, Duration};
 

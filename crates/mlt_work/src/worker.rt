@@ -3,17 +3,18 @@
 ghost use Rattle.std.specs.Prelude.{◌≡◌, All, IfOk, [], length, vec_len};
 ghost use Rattle.mlt_script_serial.specs.Clients.{AreOutcomes, AreRunsAt};
 ghost use Rattle.mlt_work_desk.specs.declared.tries.Tries.TheVariants.{PerScript};
-ghost use Rattle.mlt_work_clients.specs.Places.{scripts_of_clients};
-ghost use Rattle.mlt_work_clients.specs.Workers.{HasWorked, IsFresh};
+ghost use Rattle.mlt_work.specs.Places.{scripts_of_clients};
+ghost use Rattle.mlt_work.specs.Workers.{HasWorked, IsFresh};
 ghost use Rattle.mlt_work.specs.Runs.{AreRunWith};
 
+use crate::claim_handles::{ClaimHandle, ClientCounter};
 use crate::client_order::ClientOrder;
+use crate::forms::{ClientRun, Worked, WorkerJob};
 use crate::start_line::StartLine;
 use crate::worker_gate::WorkerGate;
 use mlt_script::Script;
 use mlt_script_serial::{Desk, Outcome, run_client};
 use mlt_types::{Pseudo, Refusal};
-use mlt_work_clients::{ClaimHandle, ClientCounter, ClientRun, Worked, WorkerJob};
 use mlt_work_desk::{Gate, LockDesk, MadeWith, Shared, Tries};
 use mlt_work_waits::{AdmissionQueue, Notice};
 use std::alloc::{AllocError, Global};

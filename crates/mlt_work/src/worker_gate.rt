@@ -1,9 +1,11 @@
 //! Where a worker takes turns with the others.
 
 use crate::start_line::StartLine;
-use crate::tuning::{FIRST_TURN, LONGEST_TURN, MOST_ADMITTED, MOST_BYPASSING};
 use mlt_event::{Answer, Told};
 use mlt_object_kinds::ObjOp;
+use mlt_work_waits::tuning::{
+    FIRST_TURN, LONGEST_TURN, MOST_ADMITTED_WORKERS, MOST_BYPASSING_WORKERS,
+};
 use mlt_work_waits::{AdmissionQueue, AdmissionRules, AfterAnswer, Gate, Notice, PassHolder};
 use std::sync::Wait;
 use std::time::Clock;
@@ -11,8 +13,8 @@ use std::time::Clock;
 /// The queue of the workers of a run.
 pub(crate) fn worker_queue() -> AdmissionQueue {
     AdmissionQueue::new(AdmissionRules {
-        most_admitted: MOST_ADMITTED,
-        most_bypassing: MOST_BYPASSING,
+        most_admitted: MOST_ADMITTED_WORKERS,
+        most_bypassing: MOST_BYPASSING_WORKERS,
         first_turn: FIRST_TURN,
         longest_turn: LONGEST_TURN,
     })

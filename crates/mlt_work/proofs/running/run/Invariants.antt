@@ -1,5 +1,6 @@
 use Rattle.std.proofs.Common.{false, Some}
-use Rattle.mlt_work_desk.specs.{LogHandles.id_of, Makings.making_by, declared.tries.Tries.TheVariants.PerScript}
+use Rattle.mlt_work_desk.specs.LogHandles.{id_of}
+use Rattle.mlt_work_desk.specs.{Makings.making_by, declared.tries.Tries.TheVariants.PerScript}
 use Rattle.mlt_work.specs.Runs.{AreRunWith}
 use Rattle.mlt_work.proofs.running.run.Given as goal
 

@@ -1,10 +1,9 @@
 use Rattle.std.proofs.Common.{◌≡◌, ℕ, ◌<◌, ◌∷◌, [], List, length, map, get_or, sym, ap, ◌∙◌, subst, arith, Vec, Global, rules}
 use Rattle.std.proofs.lemmas.List.{map-append, get_or-map, length-map, Elements.All-push}
-use Rattle.mlt_work_clients.{specs.Claims.view, specs.Seats.view_of, specs.declared.forms.ClientRun.ClientRun, specs.Places.IsClientRun, specs.Places.place_of, specs.Places.scripts_of_clients, proofs.Placing.draws_client}
+use Rattle.mlt_work.specs.{ClaimHandles.view_of, Claims.view, Places.IsClientRun, Places.place_of, Places.scripts_of_clients, Runs.AreRunWith, declared.forms.ClientRun.ClientRun}
 use Rattle.mlt_script.specs.{declared.script.Script.Script, Scripts.ScriptForm}
 use Rattle.mlt_work_desk.specs.{Holds.Answers, Views.desk_view}
-use Rattle.mlt_work.specs.Runs.{AreRunWith}
-use Rattle.mlt_work.proofs.{GivenTries.runs_keep, Refusals.runs_end, Viewing.are_runs}
+use Rattle.mlt_work.proofs.{GivenTries.runs_keep, Placing.draws_client, Refusals.runs_end, Viewing.are_runs}
 use Rattle.mlt_work.proofs.worker.run_claimed.Goals as goal
 
 pub claims-preserved : goal.claims-preserved

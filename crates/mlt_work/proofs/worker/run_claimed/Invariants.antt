@@ -1,6 +1,5 @@
 use Rattle.std.proofs.Common.{◌≡◌, length, map, All}
-use Rattle.mlt_work_clients.specs.{Claims.view, Seats.IsOf, Seats.view_of, Places.IsClientRun, Places.place_of, Places.scripts_of_clients}
-use Rattle.mlt_work.specs.Runs.{AreRunWith}
+use Rattle.mlt_work.specs.{ClaimHandles.IsOf, ClaimHandles.view_of, Claims.view, Places.IsClientRun, Places.place_of, Places.scripts_of_clients, Runs.AreRunWith}
 use Rattle.mlt_work.proofs.worker.run_claimed.Given as goal
 
 abbrev pub invariant-claims : goal.invariant-claims

@@ -1,6 +1,0 @@
-use Rattle.std.proofs.Common.{rules}
-use Rattle.mlt_work_clients.proofs.Moves.{joins}
-use Rattle.mlt_work_clients.proofs.seats.ClientCounter.join.Goals as goal
-
-pub join_seat-requires : goal.join_seat-requires
-join_seat-requires c = (search rules, search rules, search rules, search rules, joins _ _ _ _ _ c.requires.parts)
