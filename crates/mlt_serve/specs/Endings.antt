@@ -1,7 +1,7 @@
 -- What is answered of how the accepting ended, and why a server refuses to answer what it has done.
 use Rattle.std.specs.Prelude.{ℕ, ◌≡◌, ◌≤◌, ◌⊎◌, Bool, false, true, Result, Ok, Err, IfErr, IsOk, IsOkUnless}
 use Rattle.mlt_types.specs.declared.refusal.Refusal.{Refusal}
-use Rattle.mlt_serve_seats.specs.declared.note.ListenerEnd.{ListenerEnd}
+use Rattle.mlt_serve_connections.specs.declared.note.ListenerEnd.{ListenerEnd}
 
 -- a failed accept is told as Io, and a growth that was refused as OutOfMemory
 abbrev pub result_of_accepting : ListenerEnd → Result (Unit {0}) Refusal

@@ -9,8 +9,7 @@ use crate::options::ServeOptions;
 use crate::service::Service;
 use crate::tuning::{ACCEPT_PAUSE_MILLISECONDS, ROOM_PAUSE_MILLISECONDS};
 use crossbeam_channel::Sender;
-use mlt_serve_connections::{Accepted, SocketState, make_ready};
-use mlt_serve_seats::{ListenerEnd, Note, Notes};
+use mlt_serve_connections::{Accepted, ListenerEnd, Note, Notes, Remains, make_ready};
 use mlt_types::{Pseudo, Refusal};
 use mlt_work_desk::MadeWith;
 use std::alloc::Global;
@@ -22,17 +21,6 @@ use std::time::{Clock, Duration, Instant};
 
 /// What a client hears that is refused since all session threads serve others.
 const TOO_MANY: &[u8] = b"error 7 TooManyOpen\n";
-
-/// What a client keeps from one session to the next.
-#[derive(Drop)]
-pub(crate) struct Remains {
-    /// What is left of what was read.
-    pub(crate) socket: SocketState,
-    /// Whether the next transaction begins with a pause, since the last one gave up.
-    pub(crate) is_to_pause: bool,
-    /// The timestamp that the next transaction keeps, if it does.
-    pub(crate) timestamp: Option<u64>,
-}
 
 /// A connection that was accepted, with all that belongs to its client between two sessions.
 #[derive(Drop)]
@@ -253,15 +241,11 @@ impl<'a, R: Wait + Clock> Acceptor<'a, R> {
             since: now,
             queued_since: now,
             stream,
-            remains: Remains {
-                // One that is parked is idle from now on, if that has an end.
-                socket: SocketState::new(
-                    Vec::new(self.alloc),
-                    now.filter(|_| parks && self.options.idle.is_some()),
-                ),
-                is_to_pause: false,
-                timestamp: None,
-            },
+            // One that is parked is idle from now on, if that has an end.
+            remains: Remains::new(
+                Vec::new(self.alloc),
+                now.filter(|_| parks && self.options.idle.is_some()),
+            ),
         };
         match &self.destination {
             Destination::Queue(to) => match to.send(self.rt, connection) {

@@ -17,7 +17,7 @@ use crate::serving::{Ended, serve_with};
 use crate::tallying::tally_of;
 use mio::Poll;
 use mlt_manager::Manager;
-use mlt_serve_seats::ListenerEnd;
+use mlt_serve_connections::ListenerEnd;
 use mlt_serve_session::Tally;
 use mlt_types::{Pseudo, Refusal};
 use mlt_work_desk::BlankRecords;

@@ -2,17 +2,21 @@
 
 use crate::accepting::Connection;
 use crate::door::Door;
+use crate::operator::milliseconds;
 use crate::service::elapsed;
 use crate::tuning::{EVENTS_PER_POLL, LOOK_MILLISECONDS};
 use crossbeam_channel::{Receiver, Sender};
 use mio::event::Event;
 use mio::unix::SourceFd;
 use mio::{Events, Interest, Poll, Registry, Token};
-use mlt_serve_connections::{LINGER_SECONDS, ThreadLimit, is_readable, read_away_now};
-use mlt_serve_seats::{Cut, Note, Notes, is_broken, is_read_out};
+use mlt_serve_admin::SessionView;
+use mlt_serve_connections::{
+    Cut, LINGER_SECONDS, Note, Notes, ThreadLimit, is_broken, is_read_out, is_readable,
+    read_away_now,
+};
 use slab::Slab;
 use std::alloc::{AllocError, Global};
-use std::net::{Shutdown, SocketAddr, TcpStream};
+use std::net::{Shutdown, TcpStream};
 use std::os::fd::AsRawFd;
 use std::sync::atomic::{AtomicBool, AtomicU64, Ordering};
 use std::sync::{Arc, Mutex, Wait};
@@ -35,16 +39,6 @@ impl Guest {
             Guest::Leaving(stream, _) => stream,
         }
     }
-}
-
-/// What others see of a parked connection.
-#[derive(Clone, Copy)]
-pub(crate) struct ParkedState {
-    pub(crate) client: u32,
-    /// The address of its client, if the system could say so.
-    pub(crate) address: Option<SocketAddr>,
-    /// When it came, if a clock could say so.
-    pub(crate) since: Option<Instant>,
 }
 
 /// The connections that no session serves. The system tells which of them have something to read, and these go to the session threads.
@@ -274,7 +268,7 @@ impl<'a> Lobby<'a> {
                 let linger = Duration::from_secs(LINGER_SECONDS);
                 return elapsed(*since, now).is_none_or(|time| time >= linger);
             }
-            Guest::Parked(connection) => (connection.client, connection.remains.socket.idle_since),
+            Guest::Parked(connection) => (connection.client, connection.remains.idle_since),
         };
         let is_idle = match (self.idle, elapsed(idle_since, now)) {
             (Some(idle), Some(time)) => time >= idle,
@@ -325,31 +319,32 @@ impl<'a> Lobby<'a> {
         false
     }
 
-    /// The states of parked connections, at most so many.
+    /// Adds what an operator sees of parked connections, until there are so many in all.
     ///
     /// # Errors
     /// Where a growth is refused.
-    pub(crate) fn states<R: Wait>(
+    pub(crate) fn push_views<R: Wait>(
         &self,
         rt: &R,
-        alloc: Global,
+        views: &mut Vec<SessionView>,
         most: usize,
-    ) -> Result<Vec<ParkedState>, AllocError> {
-        let mut states = Vec::new(alloc);
+        now: Option<Instant>,
+    ) -> Result<(), AllocError> {
         let guests = self.guests.lock(rt);
         for key in 0..guests.capacity() {
-            if states.len() >= most {
+            if views.len() >= most {
                 break;
             }
             if let Some(Guest::Parked(connection)) = guests.get(key) {
-                states.push(ParkedState {
+                views.push(SessionView {
                     client: connection.client,
                     address: connection.stream.peer_addr().ok(),
-                    since: connection.since,
+                    milliseconds: milliseconds(connection.since, now),
+                    transaction: None,
                 })?;
             }
         }
-        Ok(states)
+        Ok(())
     }
 }
 

@@ -8,11 +8,10 @@ use mlt_object_kinds::Done;
 use mlt_page::{Bucket, Slot};
 use mlt_script_serial::Outcome;
 use mlt_serve_admin::{
-    Counts, NotSaved, ObjectView, ObjectsView, Operated, ServerView, SessionView, TimesView,
-    TransactionView, WaitReason, WaitView, WantedObjects, serve_admin,
+    Counts, NotSaved, ObjectView, ObjectsView, Operated, ServerView, SessionView, TransactionView,
+    WaitReason, WaitView, WantedObjects, serve_admin,
 };
-use mlt_serve_connections::refuse_all;
-use mlt_serve_seats::{BOUNDS, Cut, Histogram, Note, OpenTransaction, SessionState};
+use mlt_serve_connections::{Cut, Note, SessionRecord, refuse_all};
 use mlt_trace::KeptItem;
 use mlt_types::{Pseudo, Refusal};
 use mlt_work_desk::{DeskStatistics, MadeWith};
@@ -133,6 +132,30 @@ impl<'a, 'b, 'c, 'd, P: Pseudo, L: MadeWith<P>, R: Wait + Clock, F: BaseFile> Op
         }
     }
 
+    /// A wait, with what the session of the transaction shows of it. A session that loads the base shows nothing.
+    fn wait_view(&self, wait: &Waiting, awaited: WaitReason, now: Option<Instant>) -> WaitView {
+        let mut view = WaitView {
+            waiter: wait.waiter,
+            client: 0,
+            holder: wait.holder,
+            awaited,
+            operation: None,
+            milliseconds: 0,
+        };
+        for seat in self.service.seats.all() {
+            let record = seat.record(self.rt);
+            if record.is_served() && record.has_open(wait.waiter) {
+                view.client = record.client;
+                // One that has just begun to wait has not shown that.
+                if let Some(shown) = record.wait {
+                    view.operation = shown.op;
+                    view.milliseconds = milliseconds(shown.since, now);
+                }
+            }
+        }
+        view
+    }
+
     fn counts(&self, statistics: &DeskStatistics, sessions: u64, now: Option<Instant>) -> Counts {
         let Service {
             options,
@@ -143,7 +166,6 @@ impl<'a, 'b, 'c, 'd, P: Pseudo, L: MadeWith<P>, R: Wait + Clock, F: BaseFile> Op
             ..
         } = self.service;
         let totals = seats.totals(self.rt);
-        let times = seats.times();
         let items = statistics.items as u64;
         Counts {
             server: self.admin.number,
@@ -157,15 +179,8 @@ impl<'a, 'b, 'c, 'd, P: Pseudo, L: MadeWith<P>, R: Wait + Clock, F: BaseFile> Op
             connections: door.accepted(),
             refused: door.refused(),
             limit: options.connections,
-            open: totals.open(),
-            begun: totals.begun,
+            totals,
             most_begun: options.limits.max_ids,
-            operations: totals.operations,
-            commits: totals.commits,
-            aborts: totals.aborts,
-            gave_up: totals.gave_up,
-            deadlocks: totals.deadlocks,
-            no_room: totals.no_room,
             events: statistics.events,
             items,
             bytes: self.bytes_kept(items, totals.ended(), totals.operations),
@@ -178,9 +193,6 @@ impl<'a, 'b, 'c, 'd, P: Pseudo, L: MadeWith<P>, R: Wait + Clock, F: BaseFile> Op
             can_save: self.save.is_some(),
             is_loading: self.service.is_loading.load(Ordering::SeqCst),
             is_stopping: door.stops(),
-            transaction_times: times_view(&times.transactions),
-            wait_times: times_view(&times.waits),
-            queue_times: times_view(&times.queues),
         }
     }
 
@@ -201,21 +213,16 @@ impl<P: Pseudo, L: MadeWith<P>, R: Wait + Clock, F: BaseFile> Operated
     fn view(&self, alloc: Global) -> Result<ServerView, AllocError> {
         let now = Instant::now(self.rt).ok();
         let statistics = self.service.shared.statistics(self.rt);
-        let states = self.service.seats.states(self.rt, alloc)?;
         let mut sessions = Vec::new(alloc);
-        for state in &states {
-            sessions.push(session_view(alloc, state, now)?)?;
-        }
-        if let Some(lobby) = self.service.lobby {
-            let most = MOST_ROWS.saturating_sub(sessions.len());
-            for parked in &lobby.states(self.rt, alloc, most)? {
-                sessions.push(SessionView {
-                    client: parked.client,
-                    address: parked.address,
-                    milliseconds: milliseconds(parked.since, now),
-                    transaction: None,
-                })?;
+        for seat in self.service.seats.all() {
+            let record = seat.record(self.rt);
+            if record.is_served() {
+                sessions.push(session_view(alloc, &record, now)?)?;
             }
+        }
+        let clients = self.clients(sessions.len());
+        if let Some(lobby) = self.service.lobby {
+            lobby.push_views(self.rt, &mut sessions, MOST_ROWS, now)?;
         }
         let mut waits = Vec::new(alloc);
         for wait in &statistics.for_objects {
@@ -223,13 +230,13 @@ impl<P: Pseudo, L: MadeWith<P>, R: Wait + Clock, F: BaseFile> Operated
                 Some(_) => WaitReason::Object,
                 None => WaitReason::Turn,
             };
-            waits.push(wait_view(wait, awaited, &states, now))?;
+            waits.push(self.wait_view(wait, awaited, now))?;
         }
         for wait in &statistics.for_pages {
-            waits.push(wait_view(wait, WaitReason::Page, &states, now))?;
+            waits.push(self.wait_view(wait, WaitReason::Page, now))?;
         }
         Ok(ServerView {
-            counts: self.counts(&statistics, self.clients(states.len()), now),
+            counts: self.counts(&statistics, clients, now),
             sessions,
             waits,
         })
@@ -276,7 +283,7 @@ impl<P: Pseudo, L: MadeWith<P>, R: Wait + Clock, F: BaseFile> Operated
 
     fn end_session(&self, client: u32) -> bool {
         for seat in self.service.seats.all() {
-            if seat.cut_client(self.rt, client, Cut::Operator) {
+            if seat.cut(self.rt, Some(client), Cut::Operator) {
                 return true;
             }
         }
@@ -311,66 +318,30 @@ fn push_objects(
     Ok(())
 }
 
-fn times_view(times: &Histogram) -> TimesView {
-    TimesView {
-        bounds: BOUNDS,
-        counts: times.counts,
-        microseconds: times.microseconds,
-    }
-}
-
 fn session_view(
     alloc: Global,
-    state: &SessionState,
+    record: &SessionRecord,
     now: Option<Instant>,
 ) -> Result<SessionView, AllocError> {
     Ok(SessionView {
-        client: state.client,
-        address: state.address,
-        milliseconds: milliseconds(state.since, now),
-        transaction: match &state.activity.transaction {
-            Some(transaction) => Some(transaction_view(alloc, transaction, state, now)?),
+        client: record.client,
+        address: record.address(),
+        milliseconds: milliseconds(record.since, now),
+        transaction: match &record.transaction {
+            Some(transaction) => Some(TransactionView {
+                number: transaction.number,
+                milliseconds: milliseconds(transaction.since, now),
+                operations: transaction.operations,
+                did: transaction.last(alloc)?,
+                calls: record.wait.and_then(|wait| wait.op),
+            }),
             None => None,
         },
     })
 }
 
-fn transaction_view(
-    alloc: Global,
-    transaction: &OpenTransaction,
-    state: &SessionState,
-    now: Option<Instant>,
-) -> Result<TransactionView, AllocError> {
-    Ok(TransactionView {
-        number: transaction.number,
-        milliseconds: milliseconds(transaction.since, now),
-        operations: transaction.operations,
-        did: transaction.last(alloc)?,
-        calls: state.activity.op,
-    })
-}
-
-fn wait_view(
-    wait: &Waiting,
-    awaited: WaitReason,
-    states: &[SessionState],
-    now: Option<Instant>,
-) -> WaitView {
-    // One that has just begun to wait has not shown its wait, nor always its transaction.
-    let state = states.iter().find(|state| state.last == wait.waiter);
-    let shown = state.and_then(|state| state.activity.wait);
-    WaitView {
-        waiter: wait.waiter,
-        client: state.map_or(0, |state| state.client),
-        holder: wait.holder,
-        awaited,
-        operation: state.and_then(|state| state.activity.op),
-        milliseconds: milliseconds(shown.and_then(|shown| shown.since), now),
-    }
-}
-
 /// How many milliseconds have passed, as far as the clock can say so.
-fn milliseconds(since: Option<Instant>, now: Option<Instant>) -> u64 {
+pub(crate) fn milliseconds(since: Option<Instant>, now: Option<Instant>) -> u64 {
     elapsed(since, now).map_or(0, |time| {
         u64::try_from(time.as_millis()).unwrap_or(u64::MAX)
     })

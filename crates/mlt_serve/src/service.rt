@@ -8,8 +8,10 @@ use crate::door::Door;
 use crate::lobby::Lobby;
 use crate::options::ServeOptions;
 use crossbeam_channel::Receiver;
-use mlt_serve_connections::{Admission, RunningThread, SpinPolicy, ThreadLimit, lingering_close};
-use mlt_serve_seats::{Cut, Notes, Seat, Seats, Sitting, is_broken};
+use mlt_serve_connections::{
+    Admission, Cut, Note, Notes, RunningThread, Seat, Seats, SpinPolicy, ThreadLimit, is_broken,
+    lingering_close,
+};
 use mlt_types::Pseudo;
 use mlt_work_desk::{MadeWith, Shared};
 use mlt_work_waits::AdmissionQueue;
@@ -33,8 +35,6 @@ pub(crate) struct Service<'a, P: Pseudo, L: MadeWith<P>> {
     pub(crate) notes: &'a Notes,
     /// How many session threads run.
     pub(crate) running: &'a AtomicU64,
-    /// Whether transactions are noted at the seats, and not only waits.
-    pub(crate) is_watched: bool,
     /// Whether a trace is written.
     pub(crate) has_trace: bool,
     /// Whether the history is taken out of the manager as the server goes, and outcomes are not kept.
@@ -55,16 +55,14 @@ impl<P: Pseudo, L: MadeWith<P>> Service<'_, P, L> {
         seat: &'b Seat,
         is_to_pause: bool,
     ) -> Admission<'b, R> {
-        let sitting = Sitting::new(rt, seat, self.is_watched);
         let thread = RunningThread::new(rt, self.limit());
-        Admission::new(rt, self.admission_queue, sitting, thread, is_to_pause)
+        Admission::new(rt, self.admission_queue, seat, thread, is_to_pause)
     }
 
     /// The way of a session that loads the base, which has the first seat, and leaves its thread to nobody.
     pub(crate) fn loading<'b, R: Wait + Clock>(&'b self, rt: &'b R) -> Admission<'b, R> {
-        let sitting = Sitting::new(rt, self.seats.seat(0), self.is_watched);
         let thread = RunningThread::new(rt, None);
-        Admission::new(rt, self.admission_queue, sitting, thread, false)
+        Admission::new(rt, self.admission_queue, self.seats.seat(0), thread, false)
     }
 
     /// By what a session leaves its thread to others, if it may.
@@ -84,31 +82,34 @@ impl<P: Pseudo, L: MadeWith<P>> Service<'_, P, L> {
         }
     }
 
-    /// A session thread serves a connection no more.
-    pub(crate) fn give_back(&self) {
-        if let Some(limit) = self.limit() {
-            limit.give_back();
-        }
-    }
-
-    /// Parks a connection. Only where there is a lobby does a session leave one.
+    /// A session has left its connection, which is parked now. Only where there is a lobby does one leave.
     pub(crate) fn park<R: Wait + Clock>(&self, rt: &R, connection: Connection) {
         if let Some(lobby) = self.lobby {
+            lobby.limit.give_back();
             lobby.park(rt, connection);
         }
     }
 
-    /// Closes a connection with its client, here or in the lobby.
-    pub(crate) fn see_out<R: Wait + Clock>(&self, rt: &R, stream: Arc<TcpStream>) {
-        match self.lobby {
-            Some(lobby) => lobby.see_out(rt, stream),
-            None => lingering_close(rt, &stream),
+    /// A session thread serves a connection no more. A message tells why it was cut, if it was. It is closed with its client, here or in
+    /// the lobby, if that was served.
+    pub(crate) fn end<R: Wait + Clock>(
+        &self,
+        rt: &R,
+        client: u32,
+        cut: Option<Cut>,
+        served: Option<Arc<TcpStream>>,
+    ) {
+        if let Some(cut) = cut {
+            self.notes.tell(rt, Note::SessionCut(client, cut));
         }
-    }
-
-    /// A connection has ended that a session thread served.
-    pub(crate) fn count_ended(&self) {
-        self.give_back();
+        match (self.lobby, served) {
+            (Some(lobby), Some(stream)) => lobby.see_out(rt, stream),
+            (None, Some(stream)) => lingering_close(rt, &stream),
+            (_, None) => (),
+        }
+        if let Some(limit) = self.limit() {
+            limit.give_back();
+        }
         self.door.count_ended();
     }
 
@@ -125,8 +126,11 @@ impl<P: Pseudo, L: MadeWith<P>> Service<'_, P, L> {
         self.lobby.map_or(0, |lobby| lobby.parked())
     }
 
-    /// Why a connection that was accepted is not to be served any more, if so.
-    pub(crate) fn cut_in_queue(&self, stream: &TcpStream) -> Option<Cut> {
+    /// Why a connection that was accepted is not to be served any more, if so. One whose first line has come is.
+    pub(crate) fn cut_in_queue(&self, stream: &TcpStream, has_begun: bool) -> Option<Cut> {
+        if has_begun {
+            return None;
+        }
         cut_of_queued(self.door.stops(), is_broken(stream))
     }
 }

@@ -26,8 +26,7 @@ use crate::threads_beside::Ran;
 use mio::{Poll, Registry};
 use mlt_manager::Manager;
 use mlt_script_serial::{Outcome, Outcomes};
-use mlt_serve_connections::{SpinPolicy, session_queue};
-use mlt_serve_seats::{ListenerEnd, Notes, Seats};
+use mlt_serve_connections::{ListenerEnd, Notes, Seats, SpinPolicy, session_queue};
 use mlt_serve_session::Receipts;
 use mlt_types::{Pseudo, Refusal};
 use mlt_work_desk::{BlankRecords, LockedState, MadeWith, Shared};
@@ -175,7 +174,6 @@ where
         seats: &Seats::default(),
         notes: &notes,
         running: &AtomicU64::new(0),
-        is_watched: operating.admin.is_some() || options.open.is_some(),
         has_trace: operating.trace.is_some(),
         is_endless,
         is_loading: &AtomicBool::new(true),

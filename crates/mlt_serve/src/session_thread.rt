@@ -9,12 +9,11 @@ ghost use Rattle.mlt_work_desk.specs.declared.tries.Tries.TheVariants.{PerOperat
 ghost use Rattle.mlt_work_desk.specs.Prefixes.{StartsWith};
 ghost use Rattle.mlt_work_desk.specs.LogHandles.{IsOf, IsWriterOf, begun_by, first_items, id_of, past_of};
 
-use crate::accepting::{Connection, Remains};
+use crate::accepting::Connection;
 use crate::guarded_desk::GuardedDesk;
 use crate::service::Service;
 use crossbeam_channel::Receiver;
-use mlt_serve_connections::{Admission, Outside, Socket, SocketFailure};
-use mlt_serve_seats::{Cut, Note, Seat};
+use mlt_serve_connections::{Admission, Cut, Outside, Remains, Seat, Socket, SocketFailure};
 use mlt_serve_session::{LineSource, Receipts, Summary, session};
 use mlt_types::{Pseudo, Refusal};
 use mlt_work_desk::{HistoryLog, LockDesk, LogSnapshot, LogWriter, MadeWith, Tries};
@@ -54,17 +53,6 @@ pub(crate) struct SessionThread<P: Pseudo, L: MadeWith<P>, K: Receipts> {
     ghost told: { TellsOutcomes (first_items snapshot) (K.receipts outcomes) },
     ghost begun: { begun_by snapshot ≡ txs_of (K.receipts outcomes) },
     ghost given: { AreGiven P.bits_of L.tries (K.receipts outcomes) },
-}
-
-/// What became of a session.
-#[derive(Drop)]
-struct HeldSession {
-    /// Why it was cut, if it was.
-    cut: Option<Cut>,
-    /// Whether it was refused memory.
-    is_refused: bool,
-    /// What the next session of its client begins with, if this one has left.
-    remains: Option<Remains>,
 }
 
 impl<P: Pseudo, L: MadeWith<P>, K: Receipts + Drop> SessionThread<P, L, K> {
@@ -169,7 +157,8 @@ impl<P: Pseudo, L: MadeWith<P>, K: Receipts + Drop> SessionThread<P, L, K> {
         ended
     }
 
-    /// Serves a client at its seat by one session.
+    /// Serves a client at its seat by one session. It answers why that was cut, if it was, and what the next session of the client begins
+    /// with, if this one has left.
     fn hold_session<R: Wait + Clock>(
         &mut self,
         rt: &R,
@@ -179,27 +168,22 @@ impl<P: Pseudo, L: MadeWith<P>, K: Receipts + Drop> SessionThread<P, L, K> {
         client: u32,
         stream: &TcpStream,
         remains: Remains,
-    ) -> HeldSession
+    ) -> (Option<Cut>, Option<Remains>)
         requires { 1 ≤ client }
         ensures outcomes { GrowsFor (first_items self.new.snapshot) client
             (K.receipts self.old.outcomes) (K.receipts self.new.outcomes) }
         ensures connections { self.new.connections ≡ self.old.connections }
-        ensures short { self.new.is_short ≡ false
-            → (self.old.is_short ≡ false) × (result.is_refused ≡ false) }
+        ensures short { self.new.is_short ≡ false → self.old.is_short ≡ false }
     {
-        let Remains {
-            socket: state,
-            is_to_pause,
-            mut timestamp,
-        } = remains;
-        let admission = service.admission(rt, seat, is_to_pause);
+        let mut timestamp = remains.timestamp;
+        let admission = service.admission(rt, seat, remains.is_to_pause);
         let may_park = service.lobby.is_some();
         let Service {
             spin_policy,
             options,
             ..
         } = service;
-        let socket = Socket::new(rt, stream, spin_policy, options.idle, may_park, state);
+        let socket = Socket::new(rt, stream, spin_policy, options.idle, may_park, remains);
         let ended = self.serve(
             rt,
             alloc,
@@ -211,26 +195,13 @@ impl<P: Pseudo, L: MadeWith<P>, K: Receipts + Drop> SessionThread<P, L, K> {
             &mut Outside::new(&socket, &admission),
         );
         let cut = cut_of(ended, socket.failure());
-        let left = socket.close();
-        let is_to_pause = admission.close();
-        let is_refused = cut == Some(Cut::Memory);
-        self.is_short = self.is_short || is_refused;
-        HeldSession {
-            cut: seat.leave(rt).or(cut),
-            is_refused,
-            remains: match left {
-                Some(socket) => Some(Remains {
-                    socket,
-                    is_to_pause,
-                    timestamp,
-                }),
-                None => None,
-            },
-        }
+        self.is_short = self.is_short || cut == Some(Cut::Memory);
+        let remains = socket.close(admission.close(), timestamp);
+        (seat.leave(rt).or(cut), remains)
     }
 
     /// Serves a connection at its seat by one session. Then it is parked where that has left, and else closed with the client. One that was
-    /// cut in the queue counts as served. It answers whether memory was refused.
+    /// cut in the queue counts as served.
     fn seat<R: Wait + Clock>(
         &mut self,
         rt: &R,
@@ -238,12 +209,11 @@ impl<P: Pseudo, L: MadeWith<P>, K: Receipts + Drop> SessionThread<P, L, K> {
         service: &Service<'_, P, L>,
         seat: &Seat,
         connection: Connection,
-    ) -> bool
+    )
         ensures outcomes { GrowsFor (first_items self.new.snapshot) connection.client
             (K.receipts self.old.outcomes) (K.receipts self.new.outcomes) }
         ensures connections { self.new.connections ≤ self.old.connections + 1 }
-        ensures short { self.new.is_short ≡ false
-            → (self.old.is_short ≡ false) × (result ≡ false) }
+        ensures short { self.new.is_short ≡ false → self.old.is_short ≡ false }
     {
         let Connection {
             before,
@@ -253,29 +223,20 @@ impl<P: Pseudo, L: MadeWith<P>, K: Receipts + Drop> SessionThread<P, L, K> {
             stream,
             remains,
         } = connection;
-        seat.take(rt, queued_since);
-        if !remains.socket.has_begun {
-            if let Some(cut) = service.cut_in_queue(&stream) {
-                service.notes.tell(rt, Note::SessionCut(client, cut));
-                self.connections = self.connections.saturating_add(1);
-                service.count_ended();
-                return false;
-            }
+        let cut = service.cut_in_queue(&stream, remains.has_begun);
+        if cut.is_some() {
+            self.connections = self.connections.saturating_add(1);
+            service.end(rt, client, cut, None);
+            return;
         }
         let Ok(handle) = stream.clone() else {
             self.is_short = true;
-            service.count_ended();
-            return true;
+            service.end(rt, client, None, None);
+            return;
         };
-        seat.enter(rt, client, since, handle);
-        let HeldSession {
-            cut,
-            is_refused,
-            remains,
-        } = self.hold_session(rt, alloc, service, seat, client, &stream, remains);
-        match (cut, remains) {
+        seat.enter(rt, client, since, queued_since, handle);
+        match self.hold_session(rt, alloc, service, seat, client, &stream, remains) {
             (None, Some(remains)) => {
-                service.give_back();
                 let connection = Connection {
                     before,
                     client,
@@ -287,15 +248,10 @@ impl<P: Pseudo, L: MadeWith<P>, K: Receipts + Drop> SessionThread<P, L, K> {
                 service.park(rt, connection);
             }
             (cut, _) => {
-                if let Some(cut) = cut {
-                    service.notes.tell(rt, Note::SessionCut(client, cut));
-                }
-                service.see_out(rt, stream);
                 self.connections = self.connections.saturating_add(1);
-                service.count_ended();
+                service.end(rt, client, cut, Some(stream));
             }
         }
-        is_refused
     }
 
     /// Serves one connection after the other at a seat, until no more come. Where memory is refused no more are let in.
@@ -317,7 +273,8 @@ impl<P: Pseudo, L: MadeWith<P>, K: Receipts + Drop> SessionThread<P, L, K> {
                 return;
             };
             service.door.count_taken();
-            if self.seat(&*rt, alloc, &*service, &*seat, connection) {
+            self.seat(&*rt, alloc, &*service, &*seat, connection);
+            if self.is_short {
                 service.door.run_short();
             }
         }

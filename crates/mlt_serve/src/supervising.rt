@@ -4,7 +4,7 @@ use crate::ending::DoneSignal;
 use crate::operating::EndSignal;
 use crate::service::{Service, elapsed};
 use crate::tuning::{LOOK_MILLISECONDS, LOOKS_FOR_QUEUE, LOOKS_FOR_THREADS, STOP_SECONDS};
-use mlt_serve_seats::{Cut, Note, Patience};
+use mlt_serve_connections::{Cut, Note, Patience};
 use mlt_types::Pseudo;
 use mlt_work_desk::MadeWith;
 use std::sync::Wait;
@@ -104,7 +104,7 @@ impl<P: Pseudo, L: MadeWith<P>, R: Wait + Clock> Supervisor<'_, '_, '_, P, L, R>
             >= Duration::from_secs(STOP_SECONDS));
         for seat in self.service.seats.all() {
             if is_late {
-                seat.cut_any(self.rt, Cut::Stop);
+                seat.cut(self.rt, None, Cut::Stop);
             } else {
                 seat.hear_no_more(self.rt);
             }

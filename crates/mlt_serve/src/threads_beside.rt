@@ -13,16 +13,17 @@ use crate::service::Service;
 use crate::session_thread::SessionThread;
 use crate::supervising::supervise;
 use crate::trace_keeping::TraceKeeper;
+use arrayvec::ArrayVec;
 use crossbeam_channel::Receiver;
 use mio::Poll;
-use mlt_serve_seats::{Outlet, write_notes};
+use mlt_serve_connections::{Outlet, write_notes};
 use mlt_serve_session::Receipts;
 use mlt_types::{Pseudo, Refusal};
 use mlt_work_desk::MadeWith;
 use std::alloc::{AllocError, Global};
 use std::io::Write;
-use std::sync::Wait;
 use std::sync::atomic::Ordering;
+use std::sync::{Mutex, Wait};
 use std::thread::{JoinHandle, Threads};
 use std::time::Clock;
 use std::{io, thread};
@@ -41,15 +42,43 @@ pub(crate) struct Ran<P: Pseudo, L: MadeWith<P>, K: Receipts, B> {
     pub(crate) trace_failure: Option<io::Error>,
 }
 
-/// Where connections go.
+/// The threads beside those of sessions, as far as they could be started.
 #[derive(Drop)]
-struct Ways<'a> {
-    /// Where they go once they are accepted.
-    destination: Destination<'a>,
-    /// Where session threads take them.
-    from: Receiver<Connection, Global>,
-    /// What takes them from the lobby to the session threads, if they go there first.
-    parking: Option<LobbyKeeper<'a>>,
+struct Beside {
+    handles: ArrayVec<Option<JoinHandle<()>>, 5>,
+    /// Whether one was refused that the server needs.
+    is_short: bool,
+}
+
+impl Beside {
+    fn new() -> Beside {
+        Beside {
+            handles: ArrayVec::new(),
+            is_short: false,
+        }
+    }
+
+    /// A thread was started that the server needs, or refused.
+    fn add<E: Drop>(&mut self, started: Result<JoinHandle<()>, E>) {
+        match started {
+            Ok(handle) => self.add_one(handle),
+            Err(_) => self.is_short = true,
+        }
+    }
+
+    /// A thread was started.
+    fn add_one(&mut self, handle: JoinHandle<()>) {
+        // There is room for all that are started here.
+        let _ = self.handles.try_push(Some(handle));
+    }
+
+    /// Joins all of them, which have nothing left to do.
+    fn join_all<R: Threads + Wait>(self, rt: &R) {
+        let mut handles = self.handles;
+        while let Some(Some(handle)) = handles.pop() {
+            handle.join(rt);
+        }
+    }
 }
 
 /// Starts the thread that writes notes, behind what is unsaid. No thread joins it: if the reader of the notes has stopped, it stays in
@@ -72,13 +101,6 @@ where
     let write = move || write_notes(&own, alloc, &outlet, unsaid.as_str(), &mut writer);
     thread::spawn(rt, write)?;
     Ok(())
-}
-
-/// Joins a thread, if it runs.
-fn join<R: Threads + Wait>(rt: &R, handle: Option<JoinHandle<()>>) {
-    if let Some(handle) = handle {
-        handle.join(rt);
-    }
 }
 
 impl<'a, P: Pseudo + Send, L: MadeWith<P> + Send + Sync> Service<'a, P, L> {
@@ -140,23 +162,65 @@ impl<'a, P: Pseudo + Send, L: MadeWith<P> + Send + Sync> Service<'a, P, L> {
         }
     }
 
-    /// Where connections go, for so many session threads. There is nothing where memory is refused.
-    fn ways(&self, alloc: Global, count: usize, poll: Option<Poll>) -> Option<Ways<'a>> {
+    /// Where connections go once they are accepted, where so many session threads take them, and what takes them from the lobby to these,
+    /// if they are parked. There is nothing where memory is refused.
+    fn ways(
+        &self,
+        alloc: Global,
+        count: usize,
+        poll: Option<Poll>,
+    ) -> Option<
+        (
+            Destination<'a>,
+            Receiver<Connection, Global>,
+            Option<LobbyKeeper<'a>>,
+        ),
+    > {
         let (Some(lobby), Some(poll)) = (self.lobby, poll) else {
             let (to, from) = crossbeam_channel::bounded(alloc, count).ok()?;
-            return Some(Ways {
-                destination: Destination::Queue(to),
-                from,
-                parking: None,
-            });
+            return Some((Destination::Queue(to), from, None));
         };
         self.door.widen();
         let (to, from) = crossbeam_channel::unbounded(alloc).ok()?;
-        Some(Ways {
-            destination: Destination::Lobby(lobby),
-            from,
-            parking: Some(LobbyKeeper::new(alloc, lobby, poll, to).ok()?),
-        })
+        let keeper = LobbyKeeper::new(alloc, lobby, poll, to).ok()?;
+        Some((Destination::Lobby(lobby), from, Some(keeper)))
+    }
+
+    /// Accepts connections in one thread, behind so many that have loaded the base, and serves them in others, or in this one where they
+    /// are refused. There is nothing where the first is refused.
+    fn accept_and_serve<K: Receipts + Send + Drop, R: Threads + Wait + Clock + Sync>(
+        &self,
+        rt: &R,
+        alloc: Global,
+        destination: Destination<'a>,
+        from: Receiver<Connection, Global>,
+        threads: &mut [SessionThread<P, L, K>],
+        loaded: u32,
+    ) -> Option<Accepting>
+        requires some { 0 < length threads.old }
+    {
+        let service = self;
+        let count = threads.len();
+        let connections = &from;
+        thread::scope(
+            thread::scope_env(),
+            rt,
+            move |scope| -> Option<Accepting>
+                requires some { 0 < count }
+            {
+                let accept = move || accept_all(rt, alloc, service, destination, count, loaded);
+                let accepting = scope.spawn(accept).ok()?;
+                thread::for_each_mut(
+                    rt,
+                    threads,
+                    count,
+                    &|number, own: &mut SessionThread<P, L, K>| {
+                        own.serve_all(rt, alloc, service, number, connections)
+                    },
+                );
+                Some(accepting.join(rt))
+            },
+        )
     }
 
     /// Loads a base and serves connections, with these threads beside those of sessions. There is nothing where the base is not loaded, or
@@ -189,18 +253,13 @@ impl<'a, P: Pseudo + Send, L: MadeWith<P> + Send + Sync> Service<'a, P, L> {
     {
         let service = self;
         let ending = &DoneSignal::new();
-        let count = threads.len();
-        let Ways {
-            destination,
-            from,
-            parking,
-        } = self.ways(alloc, count, poll)?;
-        let connections = &from;
+        let failed = &Mutex::new(None);
+        let (destination, from, parking) = self.ways(alloc, threads.len(), poll)?;
         thread::scope(
             thread::scope_env(),
             rt,
             move |scope| -> Option<Ran<P, L, K, B>>
-                requires some { 0 < count }
+                requires some { 0 < length threads.now }
                 requires loader { K.receipts loader.outcomes ≡ [] }
                 requires base { B.given base ≡ [] }
                 ensures heard { IfSome result
@@ -209,94 +268,52 @@ impl<'a, P: Pseudo + Send, L: MadeWith<P> + Send + Sync> Service<'a, P, L> {
                 ensures count { IfSome result
                     (λ ran. ran.loaded ≡ length (B.given ran.base)) }
             {
-                let look = move || supervise(rt, service, ending, signal);
-                let watching = scope.spawn(look).ok();
-                let keeps = keeper.is_some();
-                let keeping = match keeper {
-                    Some(keeper) => {
-                        let keep = move || keeper.keep_on(rt, alloc, ending);
-                        scope.spawn(keep).ok()
+                let mut beside = Beside::new();
+                beside.add(scope.spawn(move || supervise(rt, service, ending, signal)));
+                if let Some(keeper) = keeper {
+                    beside.add(scope.spawn(move || keeper.keep_on(rt, alloc, ending, failed)));
+                }
+                if let Some(parking) = parking {
+                    beside.add(scope.spawn(move || parking.keep(rt)));
+                }
+                if let Some(operator) = operator {
+                    beside.add(scope.spawn(move || operator.answer(alloc)));
+                    // With two there are twice as many places for connections.
+                    if let Ok(second) = scope.spawn(move || operator.answer(alloc)) {
+                        beside.add_one(second);
                     }
-                    None => None,
-                };
-                let parks = parking.is_some();
-                let parking = match parking {
-                    Some(parking) => {
-                        let park = move || parking.keep(rt);
-                        scope.spawn(park).ok()
-                    }
-                    None => None,
-                };
-                let (answering, more) = match operator {
-                    Some(operator) => {
-                        // With two there are twice as many places for connections.
-                        let answer = move || operator.answer(alloc);
-                        let more = move || operator.answer(alloc);
-                        (scope.spawn(answer).ok(), scope.spawn(more).ok())
-                    }
-                    None => (None, None),
-                };
-                let all_run = watching.is_some()
-                    && keeping.is_some() == keeps
-                    && parking.is_some() == parks
-                    && answering.is_some() == operator.is_some();
-                let loaded = if all_run {
-                    loader.load(rt, alloc, service, &mut base)
-                } else {
+                }
+                let loaded = if beside.is_short {
                     None
+                } else {
+                    loader.load(rt, alloc, service, &mut base)
                 };
                 service.is_loading.store(false, Ordering::SeqCst);
                 let accepting = match loaded {
-                    Some(loaded) => {
-                        let accept = move || accept_all(
-                            rt,
-                            alloc,
-                            service,
-                            destination,
-                            count,
-                            loaded,
-                        );
-                        scope.spawn(accept).ok()
-                    }
+                    Some(loaded) => service.accept_and_serve(
+                        rt,
+                        alloc,
+                        destination,
+                        from,
+                        threads,
+                        loaded,
+                    ),
                     None => None,
                 };
-                let accepted = match accepting {
-                    Some(accepting) => {
-                        thread::for_each_mut(
-                            rt,
-                            threads,
-                            count,
-                            &|number, own: &mut SessionThread<P, L, K>| {
-                                own.serve_all(rt, alloc, service, number, connections)
-                            },
-                        );
-                        Some(accepting.join(rt))
-                    }
-                    None => {
-                        if let Some(lobby) = service.lobby {
-                            lobby.expect_no_more();
-                        }
-                        None
-                    }
-                };
-                join(rt, parking);
+                if let Some(lobby) = service.lobby {
+                    lobby.expect_no_more();
+                }
                 if let Some(operator) = operator {
                     operator.end();
                 }
-                join(rt, answering);
-                join(rt, more);
                 ending.end(rt);
-                join(rt, watching);
-                let trace_failure = match keeping {
-                    Some(keeping) => keeping.join(rt),
-                    None => None,
-                };
+                beside.join_all(rt);
                 Some(Ran {
                     base,
                     loaded: loaded?,
                     loader,
-                    accepting: accepted?,
-                    trace_failure,
+                    accepting: accepting?,
+                    trace_failure: *failed.lock(rt),
                 })
             },
         )

@@ -12,14 +12,14 @@ use crate::tuning::{
     MOST_WAITING_ITEMS,
 };
 use crossbeam_channel::{Receiver, RecvTimeoutError, Sender};
-use mlt_serve_seats::Note;
+use mlt_serve_connections::Note;
 use mlt_trace::{KeptItem, write_block};
 use mlt_types::{Pseudo, Refusal};
 use mlt_work_desk::MadeWith;
 use std::alloc::{AllocError, Global};
 use std::io::{ErrorKind, Write};
 use std::sync::atomic::{AtomicU64, Ordering};
-use std::sync::{Arc, Wait};
+use std::sync::{Arc, Mutex, Wait};
 use std::thread::Threads;
 use std::time::{Clock, Duration};
 use std::{io, mem, thread};
@@ -145,13 +145,14 @@ impl<'a, 'b, P: Pseudo, L: MadeWith<P>> TraceKeeper<'a, 'b, P, L> {
     }
 
     /// Takes or copies what is new, and writes it, again and again, until there is nothing left to do; and then what is left. It
-    /// answers why the trace was not written whole, if so.
+    /// tells there why the trace was not written whole, if so.
     pub(crate) fn keep_on<R: Wait + Clock>(
         mut self,
         rt: &R,
         alloc: Global,
         ending: &DoneSignal,
-    ) -> Option<io::Error> {
+        failed: &Mutex<Option<io::Error>>,
+    ) {
         let mut pause = LOOK_MILLISECONDS;
         for _ in rt.forever() {
             let is_last = ending.sleep(rt, Duration::from_millis(pause));
@@ -165,7 +166,7 @@ impl<'a, 'b, P: Pseudo, L: MadeWith<P>> TraceKeeper<'a, 'b, P, L> {
                 break;
             }
         }
-        self.failure()
+        *failed.lock(rt) = self.failure();
     }
 
     /// Why the trace was not written whole, if so.

@@ -3,6 +3,7 @@
 use crate::metrics::{Number, numbers};
 use crate::view::{Counts, SessionView, WaitView};
 use mlt_object_kinds::Done;
+use mlt_serve_connections::{BOUNDS, Histogram};
 use mlt_types::TxId;
 use serde::{Described, Serialize, Serializer};
 use std::fmt::Display;
@@ -35,6 +36,27 @@ pub(crate) struct NumberedObject {
     pub(crate) value: Option<u64>,
 }
 
+/// The times of a histogram, as /status tells them.
+#[derive(Clone, Copy, Serialize)]
+struct Times {
+    /// The greatest time of each bucket but the last, in microseconds.
+    bounds: [u64; 17],
+    /// How many times are in each bucket.
+    counts: [u64; 18],
+    /// The sum of all times, in microseconds.
+    microseconds: u64,
+}
+
+impl Times {
+    fn of(times: &Histogram) -> Times {
+        Times {
+            bounds: BOUNDS,
+            counts: times.counts,
+            microseconds: times.microseconds,
+        }
+    }
+}
+
 impl Described for Counts {}
 
 impl Serialize for Counts {
@@ -49,11 +71,11 @@ impl Serialize for Counts {
         text_or_null(&self.address, out)?;
         all_numbers(others, out)?;
         out.key("transaction_times")?;
-        self.transaction_times.serialize(out)?;
+        Times::of(&self.totals.transaction_times).serialize(out)?;
         out.key("wait_times")?;
-        self.wait_times.serialize(out)?;
+        Times::of(&self.totals.wait_times).serialize(out)?;
         out.key("queue_times")?;
-        self.queue_times.serialize(out)?;
+        Times::of(&self.totals.queue_times).serialize(out)?;
         out.end_map()
     }
 }

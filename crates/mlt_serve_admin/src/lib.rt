@@ -21,6 +21,6 @@ mod view;
 pub use operated::Operated;
 pub use serving::serve_admin;
 pub use view::{
-    Counts, NotSaved, ObjectView, ObjectsView, ServerView, SessionView, TimesView, TransactionView,
+    Counts, NotSaved, ObjectView, ObjectsView, ServerView, SessionView, TransactionView,
     WaitReason, WaitView, WantedObjects,
 };

@@ -1,6 +1,7 @@
 //! The numbers of a server, in the text format of Prometheus, version 0.0.4.
 
-use crate::view::{Counts, TimesView};
+use crate::view::Counts;
+use mlt_serve_connections::{BOUNDS, Histogram};
 use std::alloc::{AllocError, Global};
 use std::fmt::{self, Display};
 
@@ -33,6 +34,7 @@ macro_rules! numbers {
 
 // All numbers, in the order in which they are written.
 pub(crate) fn numbers(counts: &Counts) -> [Number; 30] {
+    let totals = &counts.totals;
     numbers! {
         server server gauge "A number that the server drew at random when it started." counts.server;
         seconds uptime_seconds gauge "Seconds since the server began to listen." counts.seconds;
@@ -43,15 +45,15 @@ pub(crate) fn numbers(counts: &Counts) -> [Number; 30] {
         connections connections_total counter "Connections that were accepted." counts.connections;
         refused refused_connections_total counter "Clients that were refused since all sessions were taken." counts.refused;
         limit connection_limit gauge "Connections that the server accepts at most." counts.limit;
-        open open_transactions gauge "Transactions that are open." counts.open;
-        begun transactions_begun_total counter "Transactions that were begun." counts.begun;
+        open open_transactions gauge "Transactions that are open." totals.open();
+        begun transactions_begun_total counter "Transactions that were begun." totals.begun;
         most_begun transaction_limit gauge "Transactions that can begin at most." counts.most_begun;
-        operations operations_total counter "Operations that were done." counts.operations;
-        commits commits_total counter "Transactions that committed." counts.commits;
-        aborts aborts_total counter "Transactions that aborted." counts.aborts;
-        gave_up gave_up_total counter "Operations that were answered GaveUp." counts.gave_up;
-        deadlocks deadlocks_total counter "Operations that were answered GaveUp to end a deadlock." counts.deadlocks;
-        no_room no_room_total counter "Operations that were answered NoRoom." counts.no_room;
+        operations operations_total counter "Operations that were done." totals.operations;
+        commits commits_total counter "Transactions that committed." totals.commits;
+        aborts aborts_total counter "Transactions that aborted." totals.aborts;
+        gave_up gave_up_total counter "Operations that were answered GaveUp." totals.gave_up;
+        deadlocks deadlocks_total counter "Operations that were answered GaveUp to end a deadlock." totals.deadlocks;
+        no_room no_room_total counter "Operations that were answered NoRoom." totals.no_room;
         events events_total counter "Events of the transaction manager." counts.events;
         items history_items gauge "Items of the history that are in memory." counts.items;
         bytes history_bytes gauge "Bytes of the history and the outcomes in memory." counts.bytes;
@@ -70,15 +72,16 @@ pub(crate) fn numbers(counts: &Counts) -> [Number; 30] {
 /// The numbers, as /metrics tells them.
 pub(crate) fn metrics_text(alloc: Global, counts: &Counts) -> Result<String, AllocError> {
     let mut text = String::new(alloc);
+    let totals = &counts.totals;
     for number in &numbers(counts) {
         push_number(&mut text, number)?;
     }
     let words = "Seconds from the answer to begin to the end of the transaction.";
-    push_times(&mut text, "transaction", words, &counts.transaction_times)?;
+    push_times(&mut text, "transaction", words, &totals.transaction_times)?;
     let words = "Seconds for which an operation waited for other transactions.";
-    push_times(&mut text, "wait", words, &counts.wait_times)?;
+    push_times(&mut text, "wait", words, &totals.wait_times)?;
     let words = "Seconds for which a connection waited for a session thread.";
-    push_times(&mut text, "queue", words, &counts.queue_times)?;
+    push_times(&mut text, "queue", words, &totals.queue_times)?;
     Ok(text)
 }
 
@@ -112,16 +115,16 @@ fn push_times(
     text: &mut String,
     name: &str,
     words: &str,
-    times: &TimesView,
+    times: &Histogram,
 ) -> Result<(), AllocError> {
     write!(text, "# HELP mltx_{name}_seconds {words}\n")?;
     write!(text, "# TYPE mltx_{name}_seconds histogram\n")?;
     let mut sum: u64 = 0;
-    for (count, bound) in times.counts.iter().zip(times.bounds.iter()) {
+    for (count, bound) in times.counts.iter().zip(BOUNDS.iter()) {
         sum = sum.wrapping_add(*count);
         push_bucket(text, name, &Seconds(*bound), sum)?;
     }
-    sum = sum.wrapping_add(times.counts[times.bounds.len()]);
+    sum = sum.wrapping_add(times.counts[BOUNDS.len()]);
     push_bucket(text, name, &"+Inf", sum)?;
     let seconds = Seconds(times.microseconds);
     write!(text, "mltx_{name}_seconds_sum {seconds}\n")?;

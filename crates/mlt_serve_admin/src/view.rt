@@ -2,6 +2,7 @@
 
 use crate::json::{all_done, number, text_or_null};
 use mlt_object_kinds::{Done, ObjOp};
+use mlt_serve_connections::Totals;
 use mlt_types::TxId;
 use serde::Serialize;
 use std::io;
@@ -16,17 +17,6 @@ pub struct ServerView {
     pub sessions: Vec<SessionView>,
     /// Who waits for whom, in any order.
     pub waits: Vec<WaitView>,
-}
-
-/// How many times fell into each bucket of a histogram.
-#[derive(Clone, Copy, Serialize)]
-pub struct TimesView {
-    /// The greatest time of each bucket but the last, in microseconds.
-    pub bounds: [u64; 17],
-    /// How many times are in each bucket.
-    pub counts: [u64; 18],
-    /// The sum of all times, in microseconds.
-    pub microseconds: u64,
 }
 
 /// Which objects are to be listed.
@@ -85,24 +75,10 @@ pub struct Counts {
     pub refused: u64,
     /// How many connections are accepted in all.
     pub limit: u64,
-    /// How many transactions are open.
-    pub open: u64,
-    /// How many transactions were begun.
-    pub begun: u64,
+    /// What sessions have counted.
+    pub totals: Totals,
     /// How many transactions may begin in all.
     pub most_begun: u64,
-    /// How many operations were done.
-    pub operations: u64,
-    /// How many transactions committed.
-    pub commits: u64,
-    /// How many transactions aborted.
-    pub aborts: u64,
-    /// How many operations were given up.
-    pub gave_up: u64,
-    /// How many operations were given up to end a cycle of waits.
-    pub deadlocks: u64,
-    /// How many operations were refused for want of room.
-    pub no_room: u64,
     /// How many events the manager had.
     pub events: u64,
     /// How many items the history has.
@@ -127,12 +103,6 @@ pub struct Counts {
     pub is_loading: bool,
     /// Whether the server was told to end.
     pub is_stopping: bool,
-    /// How long transactions took.
-    pub transaction_times: TimesView,
-    /// How long operations waited.
-    pub wait_times: TimesView,
-    /// How long connections waited for a session thread.
-    pub queue_times: TimesView,
 }
 
 /// Why a base was not saved.

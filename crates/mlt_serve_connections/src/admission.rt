@@ -1,13 +1,16 @@
-//! The way of one session through the admission queue, and what it waits for before it begins a transaction.
+//! The way of one session through the admission queue, what it waits for before it begins a transaction, and what it notes at its seat.
 
+use crate::seat::Seat;
 use crate::socket::Socket;
 use crate::thread_limit::RunningThread;
 use crate::tuning::{ANSWERS_PER_TURN, MOST_ADMITTED, MOST_BYPASSING};
 use mlt_event::{Answer, Told};
 use mlt_object_kinds::ObjOp;
-use mlt_serve_seats::Sitting;
 use mlt_serve_session::LineSource;
-use mlt_work_waits::{AdmissionQueue, AdmissionRules, AfterAnswer, Gate, Notice, PassHolder};
+use mlt_work_waits::{
+    AdmissionQueue, AdmissionRules, AfterAnswer, Gate, Notice, PassHolder, is_to_wait,
+};
+use std::cell::Cell;
 use std::io;
 use std::io::{Read, Write};
 use std::sync::Wait;
@@ -24,12 +27,16 @@ pub fn session_queue() -> AdmissionQueue {
 }
 
 /// The way of a session. It goes to work with the lines that it has read, and leaves before it writes their answers, before it reads on,
-/// and where an operation is to wait.
+/// and where an operation is to wait. What it does it notes at its seat.
 pub struct Admission<'a, R: Wait + Clock> {
+    rt: &'a R,
     holder: PassHolder<'a, R>,
-    /// Where others see what it does.
-    sitting: Sitting<'a, R>,
+    seat: &'a Seat,
     thread: RunningThread<'a, R>,
+    /// The operation that it is in.
+    op: Cell<Option<ObjOp>>,
+    /// Whether its transaction is open, and it has not waited since that began.
+    is_new: Cell<bool>,
 }
 
 impl<'a, R: Wait + Clock> Admission<'a, R> {
@@ -37,7 +44,7 @@ impl<'a, R: Wait + Clock> Admission<'a, R> {
     pub fn new(
         rt: &'a R,
         admission_queue: &'a AdmissionQueue,
-        sitting: Sitting<'a, R>,
+        seat: &'a Seat,
         thread: RunningThread<'a, R>,
         is_to_pause: bool,
     ) -> Admission<'a, R> {
@@ -46,23 +53,28 @@ impl<'a, R: Wait + Clock> Admission<'a, R> {
             holder.pause_next();
         }
         Admission {
+            rt,
             holder,
-            sitting,
+            seat,
             thread,
+            op: Cell::new(None),
+            is_new: Cell::new(false),
         }
     }
 
     /// The session ends. It returns whether the next transaction of its client begins with a pause.
     pub fn close(self) -> bool {
         let Admission {
+            rt: _,
             holder,
-            sitting,
+            seat: _,
             thread,
+            op: _,
+            is_new: _,
         } = self;
         thread.go_on();
         let is_to_pause = holder.is_to_pause();
         holder.close();
-        sitting.show();
         is_to_pause
     }
 
@@ -72,10 +84,26 @@ impl<'a, R: Wait + Clock> Admission<'a, R> {
         self.thread.block();
     }
 
-    /// Leaves, if it is at work. What it has done until now it shows to others.
+    /// Leaves, if it is at work. It may wait from now on.
     fn leave(&self) {
         self.holder.leave();
-        self.sitting.show();
+        if self.is_new.replace(false) {
+            self.seat.date(self.rt);
+        }
+    }
+
+    /// Notes what an event was told.
+    fn note(&self, told: &Told) {
+        if is_to_wait(told) {
+            self.seat.wait(self.rt, self.op.get());
+            return;
+        }
+        self.seat.note(self.rt, self.op.replace(None), told);
+        match told {
+            Told::Begun(_) => self.is_new.set(true),
+            Told::Committed(_) | Told::Aborting(true) => self.is_new.set(false),
+            _ => (),
+        }
     }
 }
 
@@ -89,22 +117,22 @@ impl<R: Wait + Clock> Gate for Admission<'_, R> {
 
     #[inline(always)]
     fn call(&self, _client: u32, op: &ObjOp) {
-        self.sitting.call(op);
+        self.op.set(Some(*op));
     }
 
     fn notice(&self, _client: u32, notice: Notice) {
         match notice {
             Notice::WaitsForTurn => {
-                self.sitting.rest();
+                self.seat.wait(self.rt, self.op.get());
                 self.block();
             }
-            Notice::IsVictim => self.sitting.deadlock(),
+            Notice::IsVictim => self.seat.deadlock(self.rt),
         }
     }
 
     #[inline(always)]
     fn is_patient(&self, _client: u32) -> bool {
-        self.sitting.is_patient()
+        !self.seat.hurries()
     }
 
     #[inline(always)]
@@ -120,7 +148,7 @@ impl<R: Wait + Clock> Admission<'_, R> {
     /// The event was told something else than that its operation goes on.
     #[inline(never)]
     fn pause_between(&self, told: &Told) {
-        self.sitting.note(told);
+        self.note(told);
         match self.holder.count(told) {
             AfterAnswer::GoesOn => (),
             AfterAnswer::Leaves => self.block(),

@@ -31,24 +31,30 @@ pub enum SocketFailure {
     Broken,
 }
 
-/// What a connection keeps from one of its sessions to the next.
+/// What a client keeps from one of its sessions to the next.
 #[derive(Drop)]
-pub struct SocketState {
+pub struct Remains {
     /// Whether its first line has come.
     pub has_begun: bool,
     /// The bytes behind the last LF, which are not answered: 200 at most.
     pub tail: Vec<u8>,
     /// Since when it waits for a line that is answered, if it does, and the wait has an end.
     pub idle_since: Option<Instant>,
+    /// Whether its next transaction begins with a pause, since the last one gave up.
+    pub is_to_pause: bool,
+    /// The timestamp that its next transaction keeps, if it does.
+    pub timestamp: Option<u64>,
 }
 
-impl SocketState {
-    /// That of a new connection, of which nothing was read. The vector is empty.
-    pub fn new(tail: Vec<u8>, now: Option<Instant>) -> SocketState {
-        SocketState {
+impl Remains {
+    /// Those of a new client, of which nothing was read. The vector is empty.
+    pub fn new(tail: Vec<u8>, idle_since: Option<Instant>) -> Remains {
+        Remains {
             has_begun: false,
             tail,
-            idle_since: now,
+            idle_since,
+            is_to_pause: false,
+            timestamp: None,
         }
     }
 }
@@ -99,13 +105,15 @@ impl<'a, C: Wait + Clock> Socket<'a, C> {
         spin_policy: &'a SpinPolicy,
         idle: Option<Duration>,
         may_park: bool,
-        state: SocketState,
+        remains: Remains,
     ) -> Socket<'a, C> {
-        let SocketState {
+        let Remains {
             has_begun,
             tail,
             idle_since,
-        } = state;
+            is_to_pause: _,
+            timestamp: _,
+        } = remains;
         spin_policy.enter();
         let has_front = !tail.is_empty();
         Socket {
@@ -139,8 +147,8 @@ impl<'a, C: Wait + Clock> Socket<'a, C> {
     }
 
     /// The session ends. Reads and writes of the stream wait again. Where the session has left, so that another one is to go on, it returns
-    /// what that begins with.
-    pub fn close(self) -> Option<SocketState> {
+    /// what that begins with, with this pause and timestamp.
+    pub fn close(self, is_to_pause: bool, timestamp: Option<u64>) -> Option<Remains> {
         // Where this fails, what the client still sends is not waited for.
         let _ = self.put_waits(true);
         self.spin_policy.leave();
@@ -151,10 +159,12 @@ impl<'a, C: Wait + Clock> Socket<'a, C> {
             tail,
             ..
         } = self;
-        is_parked.get().then_some(SocketState {
+        is_parked.get().then_some(Remains {
             has_begun: has_begun.get(),
             tail: tail.into_inner(),
             idle_since: since.get(),
+            is_to_pause,
+            timestamp,
         })
     }
 

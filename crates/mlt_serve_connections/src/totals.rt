@@ -2,6 +2,8 @@
 
 ghost use Rattle.std.specs.Prelude.{◌≡◌, ◌+◌, ◌-◌, ◌^◌, min};
 
+use crate::histogram::Histogram;
+
 /// What one session thread has counted, or all of them. Each count stays at 2^64 - 1.
 #[derive(Clone, Copy, Default)]
 pub struct Totals {
@@ -23,6 +25,12 @@ pub struct Totals {
     pub no_memory: u64,
     /// How many begins were refused since all numbers of transactions are used.
     pub no_number: u64,
+    /// How long transactions took, from when others first saw them, which is the first answer behind their begin; 0, where they did not.
+    pub transaction_times: Histogram,
+    /// How long operations waited, from when they were first told to.
+    pub wait_times: Histogram,
+    /// For how long connections waited for a session thread.
+    pub queue_times: Histogram,
 }
 
 /// Counts one more.
@@ -42,6 +50,9 @@ impl Totals {
         self.no_room = self.no_room.saturating_add(other.no_room);
         self.no_memory = self.no_memory.saturating_add(other.no_memory);
         self.no_number = self.no_number.saturating_add(other.no_number);
+        self.transaction_times.add_all(&other.transaction_times);
+        self.wait_times.add_all(&other.wait_times);
+        self.queue_times.add_all(&other.queue_times);
     }
 
     /// How many transactions have ended; it stays at 2^64 - 1.

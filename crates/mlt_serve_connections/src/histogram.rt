@@ -2,7 +2,6 @@
 
 ghost use Rattle.std.specs.Prelude.{◌≤◌};
 
-use std::sync::atomic::{AtomicU64, Ordering};
 use std::time::{Duration, Instant};
 
 /// How many buckets a histogram has: one for each bound, and one above them.
@@ -23,32 +22,25 @@ pub struct Histogram {
     pub microseconds: u64,
 }
 
-/// A histogram that one thread adds to, and others read.
-#[derive(Default, Drop)]
-pub(crate) struct SharedHistogram {
-    counts: [AtomicU64; BUCKETS],
-    microseconds: AtomicU64,
-}
-
-impl SharedHistogram {
+impl Histogram {
     /// Adds the time that has passed; none, where a clock could not say when it began or ended.
-    pub(crate) fn add(&self, since: Option<Instant>, now: Option<Instant>) {
+    pub(crate) fn add(&mut self, since: Option<Instant>, now: Option<Instant>) {
         let elapsed = match (since, now) {
             (Some(since), Some(now)) => now.saturating_duration_since(since),
             _ => Duration::ZERO,
         };
         let microseconds = u64::try_from(elapsed.as_micros()).unwrap_or(u64::MAX);
-        self.counts[bucket_of(microseconds)].fetch_add(1, Ordering::Relaxed);
-        self.microseconds.fetch_add(microseconds, Ordering::Relaxed);
+        let count = &mut self.counts[bucket_of(microseconds)];
+        *count = count.wrapping_add(1);
+        self.microseconds = self.microseconds.wrapping_add(microseconds);
     }
 
-    /// Adds what it has to the sum of several.
-    pub(crate) fn add_to(&self, sum: &mut Histogram) {
-        for (count, more) in sum.counts.iter_mut().zip(self.counts.iter()) {
-            *count = count.wrapping_add(more.load(Ordering::Relaxed));
+    /// Adds the times of another.
+    pub(crate) fn add_all(&mut self, other: &Histogram) {
+        for (count, more) in self.counts.iter_mut().zip(other.counts.iter()) {
+            *count = count.wrapping_add(*more);
         }
-        let microseconds = self.microseconds.load(Ordering::Relaxed);
-        sum.microseconds = sum.microseconds.wrapping_add(microseconds);
+        self.microseconds = self.microseconds.wrapping_add(other.microseconds);
     }
 }
 
