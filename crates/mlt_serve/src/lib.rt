@@ -25,7 +25,6 @@ mod supervising;
 mod tallying;
 mod threads_beside;
 mod trace_keeping;
-mod tuning;
 
 pub use endless::{ServedEndless, serve_endless};
 pub use operating::{

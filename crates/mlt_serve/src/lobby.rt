@@ -4,16 +4,15 @@ use crate::accepting::Connection;
 use crate::door::Door;
 use crate::operator::milliseconds;
 use crate::service::elapsed;
-use crate::tuning::{EVENTS_PER_POLL, LOOK_MILLISECONDS};
 use crossbeam_channel::{Receiver, Sender};
 use mio::event::Event;
 use mio::unix::SourceFd;
 use mio::{Events, Interest, Poll, Registry, Token};
 use mlt_serve_admin::SessionView;
 use mlt_serve_connections::{
-    Cut, LINGER_SECONDS, Note, Notes, ThreadLimit, is_broken, is_read_out, is_readable,
-    read_away_now,
+    Cut, Note, Notes, ThreadLimit, is_broken, is_read_out, is_readable, read_away_now,
 };
+use mlt_work_waits::tuning::{EVENTS_PER_POLL, LINGER_SECONDS, SUPERVISION_MILLISECONDS};
 use slab::Slab;
 use std::alloc::{AllocError, Global};
 use std::net::{Shutdown, TcpStream};
@@ -392,7 +391,7 @@ impl<'a> LobbyKeeper<'a> {
             mut events,
             to,
         } = self;
-        let pause = Duration::from_millis(LOOK_MILLISECONDS);
+        let pause = Duration::from_millis(SUPERVISION_MILLISECONDS);
         let mut last = Instant::now(rt).ok();
         for _ in rt.forever() {
             if poll.poll(&mut events, Some(pause)).is_err() {

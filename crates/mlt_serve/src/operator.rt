@@ -2,7 +2,6 @@
 
 use crate::operating::{Admin, BaseFile};
 use crate::service::{Service, elapsed};
-use crate::tuning::{BUCKETS_PER_HOLD, HOLDS_PER_LIST, LIST_PAUSE_MICROSECONDS};
 use mlt_object_base::Base;
 use mlt_object_kinds::Done;
 use mlt_page::{Bucket, Slot};
@@ -16,6 +15,9 @@ use mlt_trace::KeptItem;
 use mlt_types::{Pseudo, Refusal};
 use mlt_work_desk::{DeskStatistics, MadeWith};
 use mlt_work_waits::Waiting;
+use mlt_work_waits::tuning::{
+    BUCKETS_PER_HOLD, HOLDS_PER_LIST, LIST_PAUSE_MICROSECONDS, MOST_CLIENTS_LISTED,
+};
 use std::alloc::{AllocError, Global};
 use std::io::ErrorKind;
 use std::mem::size_of;
@@ -31,9 +33,6 @@ const ITEM_BYTES: u64 = size_of::<KeptItem>() as u64;
 const OUTCOME_BYTES: u64 = size_of::<Outcome>() as u64;
 
 const OPERATION_BYTES: u64 = size_of::<Done>() as u64;
-
-/// How many sessions are listed at most.
-const MOST_ROWS: usize = 1_000;
 
 /// What an operator sees, and can do.
 #[derive(Drop)]
@@ -222,7 +221,7 @@ impl<P: Pseudo, L: MadeWith<P>, R: Wait + Clock, F: BaseFile> Operated
         }
         let clients = self.clients(sessions.len());
         if let Some(lobby) = self.service.lobby {
-            lobby.push_views(self.rt, &mut sessions, MOST_ROWS, now)?;
+            lobby.push_views(self.rt, &mut sessions, MOST_CLIENTS_LISTED, now)?;
         }
         let mut waits = Vec::new(alloc);
         for wait in &statistics.for_objects {

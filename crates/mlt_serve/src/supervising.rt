@@ -3,10 +3,12 @@
 use crate::ending::DoneSignal;
 use crate::operating::EndSignal;
 use crate::service::{Service, elapsed};
-use crate::tuning::{LOOK_MILLISECONDS, LOOKS_FOR_QUEUE, LOOKS_FOR_THREADS, STOP_SECONDS};
 use mlt_serve_connections::{Cut, Note, Patience};
 use mlt_types::Pseudo;
 use mlt_work_desk::MadeWith;
+use mlt_work_waits::tuning::{
+    LOOKS_FOR_QUEUE, LOOKS_FOR_THREADS, STOP_SECONDS, SUPERVISION_MILLISECONDS,
+};
 use std::sync::Wait;
 use std::sync::atomic::Ordering;
 use std::time::{Clock, Duration, Instant};
@@ -53,7 +55,7 @@ pub(crate) fn supervise<P: Pseudo, L: MadeWith<P>, R: Wait + Clock, S: EndSignal
         if signal.is_given() {
             service.door.stop();
         }
-        if ending.sleep(rt, Duration::from_millis(LOOK_MILLISECONDS)) {
+        if ending.sleep(rt, Duration::from_millis(SUPERVISION_MILLISECONDS)) {
             return;
         }
         supervisor.look();

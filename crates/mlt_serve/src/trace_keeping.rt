@@ -7,15 +7,15 @@ ghost use Rattle.mlt_serve.specs.TraceLines.{WritesLines};
 use crate::ending::DoneSignal;
 use crate::operating::TraceFile;
 use crate::service::Service;
-use crate::tuning::{
-    ITEMS_PER_HOLD, LATE_SECONDS, LEAST_PAUSE_MILLISECONDS, LOOK_MILLISECONDS, MANY_ITEMS,
-    MOST_WAITING_ITEMS,
-};
 use crossbeam_channel::{Receiver, RecvTimeoutError, Sender};
 use mlt_serve_connections::Note;
 use mlt_trace::{KeptItem, write_block};
 use mlt_types::{Pseudo, Refusal};
 use mlt_work_desk::MadeWith;
+use mlt_work_waits::tuning::{
+    ITEMS_PER_HOLD, LATE_SECONDS, LEAST_PAUSE_MILLISECONDS, MANY_ITEMS, MOST_WAITING_ITEMS,
+    SUPERVISION_MILLISECONDS,
+};
 use std::alloc::{AllocError, Global};
 use std::io::{ErrorKind, Write};
 use std::sync::atomic::{AtomicU64, Ordering};
@@ -153,7 +153,7 @@ impl<'a, 'b, P: Pseudo, L: MadeWith<P>> TraceKeeper<'a, 'b, P, L> {
         ending: &DoneSignal,
         failed: &Mutex<Option<io::Error>>,
     ) {
-        let mut pause = LOOK_MILLISECONDS;
+        let mut pause = SUPERVISION_MILLISECONDS;
         for _ in rt.forever() {
             let is_last = ending.sleep(rt, Duration::from_millis(pause));
             if self.service.is_endless {
@@ -250,7 +250,7 @@ impl<'a, 'b, P: Pseudo, L: MadeWith<P>> TraceKeeper<'a, 'b, P, L> {
         let mut watch = BlockWatch::default();
         let mut is_late = false;
         for _ in rt.forever() {
-            let look = Duration::from_millis(LOOK_MILLISECONDS);
+            let look = Duration::from_millis(SUPERVISION_MILLISECONDS);
             match writer.from.recv_timeout(rt, look) {
                 Ok(written) => {
                     let refused = self.service.refuses_begins.swap(false, Ordering::SeqCst);
@@ -312,7 +312,7 @@ impl BlockWatch {
         self.blocks = blocks;
         self.is_over = is_over;
         self.looks = self.looks.saturating_add(1);
-        self.looks.saturating_mul(LOOK_MILLISECONDS) >= LATE_SECONDS * 1_000
+        self.looks.saturating_mul(SUPERVISION_MILLISECONDS) >= LATE_SECONDS * 1_000
     }
 }
 
@@ -343,7 +343,7 @@ fn pause_after(pause: u64, taken: usize) -> u64 {
     if taken > MANY_ITEMS {
         (pause / 2).max(LEAST_PAUSE_MILLISECONDS)
     } else if taken < MANY_ITEMS / 4 {
-        pause.saturating_mul(2).min(LOOK_MILLISECONDS)
+        pause.saturating_mul(2).min(SUPERVISION_MILLISECONDS)
     } else {
         pause
     }

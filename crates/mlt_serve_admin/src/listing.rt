@@ -4,14 +4,12 @@ use crate::json::{NumberedObject, Objects};
 use crate::operated::Operated;
 use crate::view::{ObjectsView, WantedObjects};
 use mlt_types::{Cell, Key};
+use mlt_work_waits::tuning::ENOUGH_OBJECTS;
 use std::alloc::{AllocError, Global};
 
 /// What is said where a query asks for none.
 pub(crate) const LISTINGS: &str =
     "Expected /base?kind=account, kind=counter or kind=set&of=SET, and from=PLACE.\n";
-
-/// From how many objects on a list ends.
-const ENOUGH_OBJECTS: usize = 1_000;
 
 /// What is asked for: the objects of a kind, or the elements of a set, from a place on.
 #[derive(Clone, Copy)]

@@ -3,6 +3,10 @@
 use crate::operated::Operated;
 use crate::service::OperatorService;
 use http_server::{Config, Connection};
+use mlt_work_waits::tuning::{
+    ACCEPT_PAUSE_MILLISECONDS, FIRST_READ_MILLISECONDS, LONGEST_BODY, LONGEST_REQUEST_SECONDS,
+    LONGEST_VISIT_SECONDS, MOST_VISITS, REQUEST_RESERVE,
+};
 use std::alloc::Global;
 use std::hash::RandomState;
 use std::io::ErrorKind;
@@ -12,27 +16,6 @@ use std::sync::Wait;
 use std::sync::atomic::{AtomicBool, Ordering};
 use std::time::{Clock, Duration, Instant};
 use std::{io, thread};
-
-/// How many connections a thread has at once.
-const PLACES: usize = 32;
-
-/// How many thousandths of a second an accept waits, and how many pass after one that failed.
-const PAUSE: u64 = 100;
-
-/// How many thousandths of a second the first read of a connection waits.
-const FIRST_READ: u64 = 5;
-
-/// After how many seconds a connection is closed whose request has not come whole.
-const LONGEST_REQUEST: u64 = 1;
-
-/// After how many seconds a connection is closed in any case.
-const LONGEST: u64 = 5;
-
-/// The longest body of a request, in bytes. No request wants one.
-const MAX_BODY: usize = 1024;
-
-/// How many bytes of memory are kept for a request that comes where no more can be had, as one that stops the server.
-const RESERVE: usize = 65_536;
 
 /// Accepts connections, and answers one request of each, until the server is over.
 ///
@@ -66,7 +49,7 @@ pub fn serve_admin<R: Wait + Clock, O: Operated>(
         match accepted {
             Ok((stream, _)) => visits.admit(rt, stream),
             Err(error) if error.kind() == ErrorKind::WouldBlock => (),
-            Err(_) => thread::sleep(rt, Duration::from_millis(PAUSE)),
+            Err(_) => thread::sleep(rt, Duration::from_millis(ACCEPT_PAUSE_MILLISECONDS)),
         }
         visits.go_on(rt, &mut service);
     }
@@ -75,7 +58,7 @@ pub fn serve_admin<R: Wait + Clock, O: Operated>(
 // Lets accepts wait no longer than that. It is an option of the socket, which std sets by a stream alone.
 fn limit_accepts(listener: &TcpListener) -> io::Result<()> {
     let socket = OwnedFd::from(listener.try_clone()?);
-    TcpStream::from(socket).set_read_timeout(Some(Duration::from_millis(PAUSE)))
+    TcpStream::from(socket).set_read_timeout(Some(Duration::from_millis(ACCEPT_PAUSE_MILLISECONDS)))
 }
 
 /// The connections of a thread that are not done, the oldest first.
@@ -102,14 +85,14 @@ impl Visits {
     fn keep_memory(&mut self) {
         if self.visits.is_empty() {
             // Where this fails the next connection has to do without.
-            let _ = self.reserve.reserve_exact(RESERVE);
+            let _ = self.reserve.reserve_exact(REQUEST_RESERVE);
         }
     }
 
     /// Closes the oldest, where all places are taken.
     fn make_room(&mut self) {
         self.reserve.shrink_to(0);
-        if self.visits.len() >= PLACES {
+        if self.visits.len() >= MOST_VISITS {
             self.visits.remove(0);
         }
     }
@@ -154,9 +137,9 @@ impl Visit {
         stream: TcpStream,
     ) -> io::Result<Visit> {
         let since = Instant::now(clock)?;
-        stream.set_read_timeout(Some(Duration::from_millis(FIRST_READ)))?;
+        stream.set_read_timeout(Some(Duration::from_millis(FIRST_READ_MILLISECONDS)))?;
         let config = Config {
-            max_body_len: MAX_BODY,
+            max_body_len: LONGEST_BODY,
             ..Config::default()
         };
         let mut visit = Visit {
@@ -189,9 +172,9 @@ impl Visit {
 
     fn is_late(&self, now: Instant) -> bool {
         let longest = if self.connection.wants_write() {
-            LONGEST
+            LONGEST_VISIT_SECONDS
         } else {
-            LONGEST_REQUEST
+            LONGEST_REQUEST_SECONDS
         };
         now.saturating_duration_since(self.since) >= Duration::from_secs(longest)
     }

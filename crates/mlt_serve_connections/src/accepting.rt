@@ -3,7 +3,7 @@
 ghost use Rattle.std.specs.Prelude.{◌≡◌};
 ghost use Rattle.mlt_serve_connections.specs.Accepts.{is_among, of_one_connection, of_the_system};
 
-use crate::tuning::BACKLOG;
+use mlt_work_waits::tuning::BACKLOG;
 use std::io;
 use std::net::{TcpListener, TcpStream};
 use std::os::fd::AsRawFd;

@@ -3,10 +3,10 @@
 use crate::seat::Seat;
 use crate::socket::Socket;
 use crate::thread_limit::RunningThread;
-use crate::tuning::{ANSWERS_PER_TURN, MOST_ADMITTED, MOST_BYPASSING};
 use mlt_event::{Answer, Told};
 use mlt_object_kinds::ObjOp;
 use mlt_serve_session::LineSource;
+use mlt_work_waits::tuning::{ANSWERS_PER_TURN, MOST_ADMITTED_SESSIONS, MOST_BYPASSING_SESSIONS};
 use mlt_work_waits::{
     AdmissionQueue, AdmissionRules, AfterAnswer, Gate, Notice, PassHolder, is_to_wait,
 };
@@ -19,8 +19,8 @@ use std::time::Clock;
 /// The queue of the sessions of a server.
 pub fn session_queue() -> AdmissionQueue {
     AdmissionQueue::new(AdmissionRules {
-        most_admitted: MOST_ADMITTED,
-        most_bypassing: MOST_BYPASSING,
+        most_admitted: MOST_ADMITTED_SESSIONS,
+        most_bypassing: MOST_BYPASSING_SESSIONS,
         first_turn: ANSWERS_PER_TURN,
         longest_turn: ANSWERS_PER_TURN,
     })

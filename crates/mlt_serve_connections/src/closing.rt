@@ -1,7 +1,7 @@
 //! How a connection ends.
 
-use crate::tuning::LINGER_SECONDS;
 use mlt_text::MAX_INPUT;
+use mlt_work_waits::tuning::LINGER_SECONDS;
 use std::io;
 use std::io::{ErrorKind, Read};
 use std::net::{Shutdown, TcpStream};

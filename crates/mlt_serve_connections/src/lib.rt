@@ -21,7 +21,6 @@ mod socket;
 mod spin_policy;
 mod thread_limit;
 mod totals;
-mod tuning;
 mod writing;
 
 pub use accepting::{Accepted, accept, refuse_all, widen_backlog};
@@ -36,5 +35,4 @@ pub use socket::{Remains, Socket, SocketFailure, is_readable, make_ready};
 pub use spin_policy::SpinPolicy;
 pub use thread_limit::{RunningThread, ThreadLimit};
 pub use totals::Totals;
-pub use tuning::LINGER_SECONDS;
 pub use writing::write_notes;

@@ -2,19 +2,11 @@
 
 use crate::note::Note;
 use crossbeam_channel::{Receiver, RecvTimeoutError, Sender};
+use mlt_work_waits::tuning::{LAST_WRITES_SECONDS, LOST_NOTES_SECONDS, MOST_NOTES_WAITING};
 use std::alloc::{AllocError, Global};
 use std::sync::atomic::{AtomicBool, AtomicU64, Ordering};
 use std::sync::{Arc, Wait};
 use std::time::{Clock, Duration, SystemTime};
-
-/// How many notes may be on their way.
-const MOST_ON_THEIR_WAY: usize = 128;
-
-/// For how many seconds a note is waited for before it is told how many were lost.
-const LOST_SECONDS: u64 = 1;
-
-/// For how many seconds the end waits until all notes are written.
-const LAST_WRITES_SECONDS: u64 = 5;
 
 /// A note with its time.
 #[derive(Clone, Copy)]
@@ -50,7 +42,7 @@ impl Notes {
     /// # Errors
     /// Where a growth is refused.
     pub fn new(alloc: Global) -> Result<(Notes, Outlet), AllocError> {
-        let (to, from) = crossbeam_channel::bounded(alloc, MOST_ON_THEIR_WAY)?;
+        let (to, from) = crossbeam_channel::bounded(alloc, MOST_NOTES_WAITING)?;
         let (here, outlet_is_gone) = crossbeam_channel::bounded(alloc, 1)?;
         let lost = Arc::new(alloc, AtomicU64::new(0))?;
         let outlet = Outlet {
@@ -106,7 +98,7 @@ impl Outlet {
         if self.lost.load(Ordering::SeqCst) > 0 {
             return self
                 .from
-                .recv_timeout(rt, Duration::from_secs(LOST_SECONDS));
+                .recv_timeout(rt, Duration::from_secs(LOST_NOTES_SECONDS));
         }
         self.from
             .recv(rt)

@@ -9,6 +9,7 @@ use crossbeam_utils::CachePadded;
 use mlt_event::{Answer, Told};
 use mlt_object_kinds::{Done, ObjOp};
 use mlt_types::{Refusal, TxId};
+use mlt_work_waits::tuning::LAST_WRITES_SECONDS;
 use std::alloc::{AllocError, Global};
 use std::net::{Shutdown, SocketAddr, TcpStream};
 use std::sync::atomic::{AtomicBool, Ordering};
@@ -17,9 +18,6 @@ use std::time::{Clock, Duration, Instant};
 
 /// How many of the operations of a transaction are kept: the last ones.
 const RECENT_OPS: usize = 16;
-
-/// For how many seconds a session that was cut may still write to a client that does not read.
-const LAST_WRITES_SECONDS: u64 = 5;
 
 /// For how long others bear with a session.
 #[derive(Clone, Copy)]

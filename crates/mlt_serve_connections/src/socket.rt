@@ -6,10 +6,10 @@ ghost use Rattle.std.specs.Io.{ReadsAtMost, WritesAtMost};
 use crate::lines::ends_as_http;
 use crate::spin_policy::SpinPolicy;
 use crate::thread_limit::RunningThread;
-use crate::tuning::{LOOK_MILLISECONDS, READ_SPINS, WRITE_MILLISECONDS};
 use libc::net::{POLLIN, poll};
 use libc::types::pollfd;
 use mlt_text_words::{MOST_LINE_BYTES, find_lf};
+use mlt_work_waits::tuning::{READ_SPINS, SILENCE_MILLISECONDS, WRITE_MILLISECONDS};
 use std::alloc::AllocError;
 use std::cell::{Cell, RefCell};
 use std::hint::spin_loop;
@@ -469,7 +469,7 @@ fn set_first_timeouts(
     if !may_park {
         return set_timeouts(stream, idle);
     }
-    stream.set_read_timeout(Some(Duration::from_millis(LOOK_MILLISECONDS)))?;
+    stream.set_read_timeout(Some(Duration::from_millis(SILENCE_MILLISECONDS)))?;
     stream.set_write_timeout(Some(Duration::from_millis(WRITE_MILLISECONDS)))
 }
 

@@ -1,6 +1,6 @@
 //! How many session threads run at a time, and whether there are too few of them.
 
-use crate::tuning::{MOST_RUNNING, SHORT_FOR};
+use mlt_work_waits::tuning::{MOST_RUNNING, SHORT_FOR};
 use std::cell::Cell;
 use std::sync::atomic::{AtomicU64, Ordering};
 use std::sync::{Condvar, Mutex, Wait};

@@ -5,14 +5,12 @@ use crate::notes::{Outlet, TimedNote};
 use crossbeam_channel::RecvTimeoutError;
 use httpdate::HttpDate;
 use mlt_text::write_text;
+use mlt_work_waits::tuning::MOST_NOTES_IN_A_SECOND;
 use std::alloc::{AllocError, Global};
 use std::io::Write;
 use std::sync::Wait;
 use std::sync::atomic::Ordering;
 use std::time::Clock;
-
-/// How many notes of one kind are written in a second. The others are lost.
-const MOST_IN_A_SECOND: u64 = 50;
 
 /// How many notes of each kind came in one second.
 #[derive(Default, Drop)]
@@ -53,7 +51,7 @@ pub fn write_notes<R: Wait + Clock, W: Write>(
                     write_lost(alloc, outlet, writer);
                     write_note(alloc, &told, writer);
                 }
-                count if count <= MOST_IN_A_SECOND => write_note(alloc, &told, writer),
+                count if count <= MOST_NOTES_IN_A_SECOND => write_note(alloc, &told, writer),
                 _ => {
                     outlet.lost.fetch_add(1, Ordering::SeqCst);
                 }

@@ -88,7 +88,7 @@ pub const ACCEPT_PAUSE_MILLISECONDS: u64 = 100;
 /// For how many milliseconds new clients wait where as many are connected as may be, until that is looked at again. Nothing measures it.
 pub const ROOM_PAUSE_MILLISECONDS: u64 = 10;
 
-// The supervision of a server and its end, of `mlt_serve`, `mlt_serve_seats` and `mltx`.
+// The supervision of a server and its end, of `mlt_serve`, `mlt_serve_connections` and `mltx`.
 
 /// How many milliseconds pass between two looks of the supervisor after sessions, and of the lobby after parked connections, and at most
 /// between two pieces of a trace. By `looked`, 8 connections of 4 threads and 64 connections of 4 threads.
@@ -172,7 +172,7 @@ pub const LONGEST_BODY: usize = 1_024;
 /// How many bytes of memory are kept for a request that comes where no more can be had, as one that stops the server. Nothing measures it.
 pub const REQUEST_RESERVE: usize = 65_536;
 
-// The messages of a server, of `mlt_serve_seats`.
+// The messages of a server, of `mlt_serve_connections`.
 
 /// How many messages may be on their way to the thread that writes them. A limit, in OPERATING's "Messages".
 pub const MOST_NOTES_WAITING: usize = 128;

@@ -5,6 +5,7 @@ use libc::net::POLLIN;
 use mlt_serve::EndSignal;
 use mlt_text_words::after;
 use mlt_types::Refusal;
+use mlt_work_waits::tuning::INPUT_MILLISECONDS;
 use std::fs::File;
 use std::io::{ErrorKind, Read, Stdin};
 use std::os::unix::fs::FileExt;
@@ -15,9 +16,6 @@ use std::thread::Threads;
 
 // SIGHUP, SIGINT and SIGTERM, as a mask of signals has them.
 const ASK_TO_END: u64 = 1 << 0 | 1 << 1 | 1 << 14;
-
-// For how many milliseconds input is waited for, again and again.
-const LOOK_MILLISECONDS: i32 = 1_000;
 
 /// Tells where standard input has ended, if that is asked for, or a signal asks for the end. A signal does where the process was
 /// started with it blocked, as by `./mltx serve`: it stays pending then, and ends no process.
@@ -115,7 +113,7 @@ fn watch_input<T: Threads + Wait + Sync + Send + Copy + 'static>(
 fn read_away<W: Wait>(rt: &W, mut stdin: Stdin, has_ended: &AtomicBool) {
     let mut buffer = [0; 4096];
     for _ in rt.forever() {
-        if !is_ready(&stdin, POLLIN, LOOK_MILLISECONDS) {
+        if !is_ready(&stdin, POLLIN, INPUT_MILLISECONDS) {
             continue;
         }
         match stdin.read(&mut buffer) {
