@@ -13,7 +13,6 @@ use crate::service::Service;
 use crate::session_thread::SessionThread;
 use crate::supervising::supervise;
 use crate::trace_keeping::TraceKeeper;
-use arrayvec::ArrayVec;
 use crossbeam_channel::Receiver;
 use mio::Poll;
 use mlt_serve_connections::{Outlet, write_notes};
@@ -24,7 +23,7 @@ use std::alloc::{AllocError, Global};
 use std::io::Write;
 use std::sync::atomic::Ordering;
 use std::sync::{Mutex, Wait};
-use std::thread::{JoinHandle, Threads};
+use std::thread::Threads;
 use std::time::Clock;
 use std::{io, thread};
 
@@ -40,45 +39,6 @@ pub(crate) struct Ran<P: Pseudo, L: MadeWith<P>, K: Receipts, B> {
     pub(crate) accepting: Accepting,
     /// Why the trace was not written whole, if so.
     pub(crate) trace_failure: Option<io::Error>,
-}
-
-/// The threads beside those of sessions, as far as they could be started.
-#[derive(Drop)]
-struct Beside {
-    handles: ArrayVec<Option<JoinHandle<()>>, 5>,
-    /// Whether one was refused that the server needs.
-    is_short: bool,
-}
-
-impl Beside {
-    fn new() -> Beside {
-        Beside {
-            handles: ArrayVec::new(),
-            is_short: false,
-        }
-    }
-
-    /// A thread was started that the server needs, or refused.
-    fn add<E: Drop>(&mut self, started: Result<JoinHandle<()>, E>) {
-        match started {
-            Ok(handle) => self.add_one(handle),
-            Err(_) => self.is_short = true,
-        }
-    }
-
-    /// A thread was started.
-    fn add_one(&mut self, handle: JoinHandle<()>) {
-        // There is room for all that are started here.
-        let _ = self.handles.try_push(Some(handle));
-    }
-
-    /// Joins all of them, which have nothing left to do.
-    fn join_all<R: Threads + Wait>(self, rt: &R) {
-        let mut handles = self.handles;
-        while let Some(Some(handle)) = handles.pop() {
-            handle.join(rt);
-        }
-    }
 }
 
 /// Starts the thread that writes notes, behind what is unsaid. No thread joins it: if the reader of the notes has stopped, it stays in
@@ -253,9 +213,11 @@ impl<'a, P: Pseudo + Send, L: MadeWith<P> + Send + Sync> Service<'a, P, L> {
     {
         let service = self;
         let ending = &DoneSignal::new();
-        let failed = &Mutex::new(None);
+        let failed = Mutex::new(None);
+        let failure = &failed;
         let (destination, from, parking) = self.ways(alloc, threads.len(), poll)?;
-        thread::scope(
+        // It joins all threads that it has started.
+        let ran = thread::scope(
             thread::scope_env(),
             rt,
             move |scope| -> Option<Ran<P, L, K, B>>
@@ -268,22 +230,24 @@ impl<'a, P: Pseudo + Send, L: MadeWith<P> + Send + Sync> Service<'a, P, L> {
                 ensures count { IfSome result
                     (λ ran. ran.loaded ≡ length (B.given ran.base)) }
             {
-                let mut beside = Beside::new();
-                beside.add(scope.spawn(move || supervise(rt, service, ending, signal)));
+                let look = move || supervise(rt, service, ending, signal);
+                let mut is_short = scope.spawn(look).is_err();
                 if let Some(keeper) = keeper {
-                    beside.add(scope.spawn(move || keeper.keep_on(rt, alloc, ending, failed)));
+                    let keep = move || keeper.keep_on(rt, alloc, ending, failure);
+                    is_short = scope.spawn(keep).is_err() || is_short;
                 }
                 if let Some(parking) = parking {
-                    beside.add(scope.spawn(move || parking.keep(rt)));
+                    let park = move || parking.keep(rt);
+                    is_short = scope.spawn(park).is_err() || is_short;
                 }
                 if let Some(operator) = operator {
-                    beside.add(scope.spawn(move || operator.answer(alloc)));
                     // With two there are twice as many places for connections.
-                    if let Ok(second) = scope.spawn(move || operator.answer(alloc)) {
-                        beside.add_one(second);
-                    }
+                    let answer = move || operator.answer(alloc);
+                    let more = move || operator.answer(alloc);
+                    is_short = scope.spawn(answer).is_err() || is_short;
+                    let _ = scope.spawn(more);
                 }
-                let loaded = if beside.is_short {
+                let loaded = if is_short {
                     None
                 } else {
                     loader.load(rt, alloc, service, &mut base)
@@ -307,15 +271,18 @@ impl<'a, P: Pseudo + Send, L: MadeWith<P> + Send + Sync> Service<'a, P, L> {
                     operator.end();
                 }
                 ending.end(rt);
-                beside.join_all(rt);
                 Some(Ran {
                     base,
                     loaded: loaded?,
                     loader,
                     accepting: accepting?,
-                    trace_failure: *failed.lock(rt),
+                    trace_failure: None,
                 })
             },
-        )
+        )?;
+        Some(Ran {
+            trace_failure: failed.into_inner(),
+            ..ran
+        })
     }
 }
