@@ -63,6 +63,14 @@ def commands_of(block: str) -> list[tuple[list[str], str]]:
 
 
 @test
+def each_linked_library_has_its_licence(_mltx: Program) -> None:
+    """A crate of the kit that crates.txt names anew fails."""
+    rows = [line.split(":") for line in (ROOT / "crates.txt").read_text().splitlines() if not line.startswith("#")]
+    own, named = {row[0] for row in rows}, {name for row in rows for name in row[1].split()}
+    same(sorted(named - own - set(re.findall(r"\w+", (ROOT / "NOTICE").read_text()))), [], "crates without a licence")
+
+
+@test
 def each_link_leads_to_a_file_and_a_heading(_mltx: Program) -> None:
     """A file that moved or a heading that was renamed fails."""
     lost, texts = [], pages()

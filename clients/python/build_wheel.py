@@ -33,10 +33,11 @@ def metadata() -> str:
     """What the package says of itself, with its page."""
     project = table("project")
     rows = [
-        ("Metadata-Version", "2.1"),
+        ("Metadata-Version", "2.4"),
         ("Name", project["name"]),
         ("Version", version()),
         ("Summary", project["description"]),
+        ("License-Expression", project["license"]),
         ("Requires-Python", project["requires-python"]),
         ("Description-Content-Type", "text/markdown"),
     ]
