@@ -226,6 +226,8 @@ def server_that_loads(mltx: Program, is_signalled: bool) -> None:
         same((told["connections"], told["loading"], told["stopping"]), (0, 1, 0), "the server while it loads")
         told = answer(server, "/save", "POST", MARK)
         same(told, (503, TEXT, b"The base is still being loaded.\n"), "a base that is not loaded yet")
+        same(answer(server, "/ready"), told, "whether it is ready")
+        same(answer(server, "/live"), (200, TEXT, b"live\n"), "whether it answers")
         if is_signalled:
             server.process.send_signal(signal.SIGTERM)
         else:

@@ -98,7 +98,7 @@ OF_OPTIONS = {
     "--endless": "Accept connections without limit, and keep no history in memory; not with --limit",
     "--clients <N>": "Let up to N clients be connected with --endless, 1 to 100000 [default: 10000]",
     "--limit <N>": "Exit after N connections, 1 to 1000000 [default: 1]",
-    "--sessions <N>": "Serve up to N connections at a time, or with --endless transactions, 1 to 64 [default: 8]",
+    "--sessions <N>": "Serve up to N connections at a time, 1 to 64 [default: 8], or with --endless transactions [default: 64]",
     "--full <FULL>": "Let new clients wait, or refuse them, while all sessions, or --clients, are taken [default: wait] "
     "[possible values: wait, refuse]",
     "--wait <SECONDS>": "Answer GaveUp to operations that wait for SECONDS, up to 86400; 0 = never [default: 0]",
@@ -150,7 +150,7 @@ GROUPS = {
 # What the help has to say below that.
 BELOW = {
     "serve": (
-        "mltx serve 127.0.0.1:7000 --endless --sessions 64 --idle 600 --data data --admin 127.0.0.1:7001",
+        "mltx serve 127.0.0.1:7000 --endless --idle 600 --data data --admin 127.0.0.1:7001",
         "mltx: listening on 127.0.0.1:7000",
     ),
 }

@@ -680,7 +680,7 @@ def wait_for_a_page_as_text(mltx: Program) -> None:
 
 
 PATHS = {
-    **dict.fromkeys(("/status", "/metrics", "/waits", "/sessions", "/"), "GET"),
+    **dict.fromkeys(("/live", "/ready", "/status", "/metrics", "/waits", "/sessions", "/"), "GET"),
     **dict.fromkeys(("/save", "/stop", "/sessions/1/end"), "POST"),
 }
 
@@ -1046,6 +1046,7 @@ def operator_sees_that_the_server_stops(mltx: Program) -> None:
     """As long as a client that never reads keeps it from its end."""
     with operated(mltx) as server, server.connect() as deaf:
         same(counts(server, "stopping"), {"stopping": 0}, "before")
+        same(answer(server, "/ready"), (200, TEXT, b"ready\n"), "whether it is ready before")
         sending = threading.Thread(target=send_and_hear_nothing, args=(deaf, "foo\n" * 2_000_000))
         sending.start()
         takes_no_more(deaf)
@@ -1053,6 +1054,7 @@ def operator_sees_that_the_server_stops(mltx: Program) -> None:
             same(posted(server, "/stop"), (200, {"stopping": True}), "the command")
             same(counts(server, "stopping", "sessions"), {"stopping": 1, "sessions": 1}, "while it stops")
             holds(b"\nmltx_stopping 1\n" in answer(server, "/metrics")[2], "it stops, as metrics tell it")
+            same(answer(server, "/ready"), (503, TEXT, b"The server is shutting down.\n"), "whether it is ready while it stops")
             same(posted(server, "/stop"), (200, {"stopping": True}), "the command again")
             ended = server.end(said="")
         sending.join()

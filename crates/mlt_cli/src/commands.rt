@@ -95,7 +95,7 @@ If a connection ends, its open transaction is rolled back. The trace is written 
 When the server exits, it prints `served` and the number of connections.
 
 To keep a server running until you stop it, and its data, also after a crash:
-  mltx serve 127.0.0.1:7000 --endless --sessions 64 --idle 600 --data data --admin 127.0.0.1:7001
+  mltx serve 127.0.0.1:7000 --endless --idle 600 --data data --admin 127.0.0.1:7001
 
 Stop it by the button at http://127.0.0.1:7001, or by
   curl -X POST -H 'X-Mltx: 1' http://127.0.0.1:7001/stop
@@ -262,10 +262,10 @@ const SERVE_ROWS: &[Row] = &[
     Row::Number(
         "sessions",
         "N",
-        "Serve up to N connections at a time, or with --endless transactions, 1 to 64",
+        "Serve up to N connections at a time, 1 to 64 [default: 8], or with --endless transactions [default: 64]",
         1,
         64,
-        "8",
+        "",
     ),
     Row::Choice(
         "full",

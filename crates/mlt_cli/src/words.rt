@@ -58,7 +58,7 @@ pub struct Work {
 pub struct Serve {
     /// The address, as its input.
     pub run: Run,
-    /// How many sessions there are at once, from 1 to 64; 8 where none is said.
+    /// How many sessions there are at once, from 1 to 64.
     pub sessions: usize,
     /// How many connections there are in all; one where nothing is said.
     pub connections: Connections,
@@ -288,8 +288,8 @@ fn work_found(alloc: Global, found: &ArgMatches<'_>) -> Result<Job, NoJob>
 fn serve_found(alloc: Global, found: &ArgMatches<'_>) -> Result<Job, NoJob>
     ensures { IfOk result IsWithinBounds }
 {
-    let sessions = number_found(found, "sessions", 1, 64)?;
     let connections = connections_found(found)?;
+    let sessions = number_or(found, "sessions", 1, 64, usual_sessions(&connections))?;
     let tries = number_found(found, "tries", 1, 1_000_000)?;
     let times = times_found(found, usual_open(&connections))?;
     let full = full_found(found)?;
@@ -323,6 +323,16 @@ fn connections_found(found: &ArgMatches<'_>) -> Result<Connections, NoJob>
             Ok(Connections::Limit(limit as u32))
         }
         (false, None) => Ok(Connections::Limit(1)),
+    }
+}
+
+// How many sessions there are at once where none is said.
+fn usual_sessions(connections: &Connections) -> u64
+    ensures { (1 ≤ result) × (result ≤ 64) }
+{
+    match connections {
+        Connections::Endless(_) => 64,
+        Connections::Limit(_) => 8,
     }
 }
 

@@ -3,7 +3,7 @@ use Rattle.std.specs.Prelude.{◌≡◌, ◌↔◌, ◌⊎◌, ℕ, List, [], �
 use Rattle.http.specs.{declared.request.Request.Request, Request.head_of, HeaderMap.Entries, HeaderMap.get, FieldValue.FieldValue, Uri.uri_path}
 use Rattle.http_server.specs.declared.response.Response.{Response}
 use Rattle.mlt_serve_admin.specs.{declared.resources.Resource.Resource, declared.replies.Content.Content, declared.routes.Route.Route, Resources.methods_of, Replies.HasHead, Replies.headers_of, Replies.IsReply, Routes.IsRouteOf, Hosts.IsDirectRequest}
-use Rattle.mlt_serve_admin.specs.declared.resources.Resource.TheVariants.{Page, Status, Metrics, Waits, Sessions, Base, Save, Stop, SessionEnd}
+use Rattle.mlt_serve_admin.specs.declared.resources.Resource.TheVariants.{Page, Live, Ready, Status, Metrics, Waits, Sessions, Base, Save, Stop, SessionEnd}
 
 -- what holds of a server once it was told to end, once it cut the session of a client, and once it saved its base
 pub record Doings : Type 1 where
@@ -27,6 +27,9 @@ IsSaveAnswer saved response =
 -- client, or saved its base
 abbrev pub IsAnswerAt : Doings → Resource → Response → Type 0
 IsAnswerAt did Page response = IsReply 200 Content.Page response
+IsAnswerAt did Live response = IsReply 200 Content.Line response
+IsAnswerAt did Ready response =
+    IsReply 200 Content.Line response ⊎ IsReply 503 Content.Line response
 IsAnswerAt did Status response = IsReply 200 Content.Json response
 IsAnswerAt did Metrics response = IsReply 200 Content.Metrics response
 IsAnswerAt did Waits response = IsReply 200 Content.Json response

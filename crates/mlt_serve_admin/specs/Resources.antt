@@ -2,11 +2,13 @@
 use Rattle.std.specs.Prelude.{◌≡◌, ◌≢◌, ◌<◌, ◌^◌, ◌⊎◌, ℕ, List, ◌++◌, codes, Bool, true, false, if◌then◌else◌, IsTrue, IsFalse, Some}
 use Rattle.mlt_text_words.specs.Numbers.{number_of}
 use Rattle.mlt_serve_admin.specs.declared.resources.Resource.{Resource}
-use Rattle.mlt_serve_admin.specs.declared.resources.Resource.TheVariants.{Page, Status, Metrics, Waits, Sessions, Base, Save, Stop, SessionEnd}
+use Rattle.mlt_serve_admin.specs.declared.resources.Resource.TheVariants.{Page, Live, Ready, Status, Metrics, Waits, Sessions, Base, Save, Stop, SessionEnd}
 
 -- the resource stands at this path; a client's number may have zeros before it
 abbrev pub IsAt : List ℕ → Resource → Type 0
 IsAt path Page = path ≡ codes "/"
+IsAt path Live = path ≡ codes "/live"
+IsAt path Ready = path ≡ codes "/ready"
 IsAt path Status = path ≡ codes "/status"
 IsAt path Metrics = path ≡ codes "/metrics"
 IsAt path Waits = path ≡ codes "/waits"
@@ -23,6 +25,8 @@ IsAt path (SessionEnd client) =
 -- no resource without a number stands at this path
 pub record IsAtNoFixedPath (path : List ℕ) : Type 0 where
   pub page : path ≢ codes "/"
+  pub live : path ≢ codes "/live"
+  pub ready : path ≢ codes "/ready"
   pub status : path ≢ codes "/status"
   pub metrics : path ≢ codes "/metrics"
   pub waits : path ≢ codes "/waits"

@@ -12,6 +12,10 @@ use mlt_text_words::{after, read_number};
 pub(crate) enum Resource {
     /// The page for a browser.
     Page,
+    /// That the server answers.
+    Live,
+    /// Whether it takes clients.
+    Ready,
     /// The numbers, in JSON.
     Status,
     /// The numbers, for Prometheus.
@@ -79,6 +83,8 @@ fn fixed_resource(path: &str) -> Option<Resource>
 {
     match path {
         _ if path == "/" => Some(Resource::Page),
+        _ if path == "/live" => Some(Resource::Live),
+        _ if path == "/ready" => Some(Resource::Ready),
         _ if path == "/status" => Some(Resource::Status),
         _ if path == "/metrics" => Some(Resource::Metrics),
         _ if path == "/waits" => Some(Resource::Waits),

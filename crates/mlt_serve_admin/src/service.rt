@@ -90,6 +90,8 @@ impl<O: Operated> OperatorService<'_, O> {
     {
         match resource {
             Resource::Page => fill(response, StatusCode::OK, Content::Page, PAGE),
+            Resource::Live => fill(response, StatusCode::OK, Content::Line, "live\n"),
+            Resource::Ready => self.tell_ready(response),
             Resource::Status => {
                 let view = self.operated.view(self.alloc)?;
                 self.show(&view.counts, response)
@@ -121,6 +123,24 @@ impl<O: Operated> OperatorService<'_, O> {
                 fill(response, StatusCode::OK, Content::Json, text)
             }
             Resource::SessionEnd(client) => self.end_session(client, response),
+        }
+    }
+
+    // Tells whether the server takes clients: it has loaded its base, and is not shutting down.
+    fn tell_ready(&self, response: &mut Response) -> Result<(), AllocError>
+        requires { IsBlank response.old }
+        ensures { OnOk result (IsReply 200 content.Line response.new
+            ⊎ IsReply 503 content.Line response.new) }
+    {
+        let view = self.operated.view(self.alloc)?;
+        if view.counts.is_loading {
+            let why = "The base is still being loaded.\n";
+            refuse(response, StatusCode::SERVICE_UNAVAILABLE, why)
+        } else if view.counts.is_stopping {
+            let why = "The server is shutting down.\n";
+            refuse(response, StatusCode::SERVICE_UNAVAILABLE, why)
+        } else {
+            fill(response, StatusCode::OK, Content::Line, "ready\n")
         }
     }
 

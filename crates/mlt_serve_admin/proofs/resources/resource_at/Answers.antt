@@ -1,6 +1,6 @@
 use Rattle.std.proofs.Common.{ℕ, List, Option, Some, None, IfNone}
 use Rattle.mlt_serve_admin.specs.{declared.resources.Resource.Resource, Resources.IsAt, Resources.IsAtNoFixedPath}
-use Rattle.mlt_serve_admin.specs.declared.resources.Resource.TheVariants.{Page, Status, Metrics, Waits, Sessions, Base, Save, Stop, SessionEnd}
+use Rattle.mlt_serve_admin.specs.declared.resources.Resource.TheVariants.{Page, Live, Ready, Status, Metrics, Waits, Sessions, Base, Save, Stop, SessionEnd}
 use Rattle.mlt_serve_admin.proofs.resources.resource_at.Goals as goal
 
 -- a path that is none of the fixed ones, and no end of a session, is that of no resource
@@ -8,6 +8,8 @@ is_at_none : (path : List ℕ) → IsAtNoFixedPath path
     → ((client : ℕ) → ¬ (IsAt path (SessionEnd client)))
     → (resource : Resource) → ¬ (IsAt path resource)
 is_at_none path fixed ends Page = fixed.page
+is_at_none path fixed ends Live = fixed.live
+is_at_none path fixed ends Ready = fixed.ready
 is_at_none path fixed ends Status = fixed.status
 is_at_none path fixed ends Metrics = fixed.metrics
 is_at_none path fixed ends Waits = fixed.waits
