@@ -10,7 +10,7 @@ use mlt_serve_admin::{
     Counts, NotSaved, ObjectView, ObjectsView, Operated, ServerView, SessionView, TransactionView,
     WaitReason, WaitView, WantedObjects, serve_admin,
 };
-use mlt_serve_connections::{Cut, Note, SessionRecord, refuse_all};
+use mlt_serve_connections::{Cut, Note, SeatRecord, refuse_all};
 use mlt_trace::KeptItem;
 use mlt_types::{Pseudo, Refusal};
 use mlt_work_desk::{DeskStatistics, MadeWith};
@@ -319,7 +319,7 @@ fn push_objects(
 
 fn session_view(
     alloc: Global,
-    record: &SessionRecord,
+    record: &SeatRecord,
     now: Option<Instant>,
 ) -> Result<SessionView, AllocError> {
     Ok(SessionView {

@@ -30,7 +30,7 @@ pub use histogram::{BOUNDS, Histogram};
 pub use note::{Cut, ListenerEnd, Note};
 pub use notes::{Notes, Outlet};
 pub use presence::{is_broken, is_read_out};
-pub use seat::{OpenTransaction, OperationWait, Patience, Seat, Seats, SessionRecord};
+pub use seat::{OpenTransaction, OperationWait, Patience, Seat, SeatRecord, Seats};
 pub use socket::{Remains, Socket, SocketFailure, is_readable, make_ready};
 pub use spin_policy::SpinPolicy;
 pub use thread_limit::{RunningThread, ThreadLimit};

@@ -89,7 +89,7 @@ pub struct OperationWait {
 /// What a session thread does: the session that it serves, if it serves one, and what it has counted in all of them. The thread alone
 /// writes this, but that others cut the session.
 #[derive(Default, Drop)]
-pub struct SessionRecord {
+pub struct SeatRecord {
     /// The number of the client that is served.
     pub client: u32,
     /// When that client came, if a clock could say so.
@@ -106,7 +106,7 @@ pub struct SessionRecord {
     pub totals: Totals,
 }
 
-impl SessionRecord {
+impl SeatRecord {
     /// Whether a session is served.
     pub fn is_served(&self) -> bool {
         self.stream.is_some()
@@ -181,12 +181,12 @@ impl SessionRecord {
 pub struct Seat {
     /// Whether an operation of the session that is to wait is given up.
     hurries: AtomicBool,
-    record: Mutex<SessionRecord>,
+    record: Mutex<SeatRecord>,
 }
 
 impl Seat {
     /// What the thread does. It waits meanwhile.
-    pub fn record<R: Wait>(&self, rt: &R) -> MutexGuard<'_, SessionRecord> {
+    pub fn record<R: Wait>(&self, rt: &R) -> MutexGuard<'_, SeatRecord> {
         self.record.lock(rt)
     }
 
@@ -273,7 +273,7 @@ impl Seat {
         is_it
     }
 
-    fn cut_at(&self, record: &mut SessionRecord, cut: Cut, now: Option<Instant>) {
+    fn cut_at(&self, record: &mut SeatRecord, cut: Cut, now: Option<Instant>) {
         record.cut = record.cut.or(Some((cut, now)));
         self.hurries.store(true, Ordering::Relaxed);
         record.hear_no_more();
