@@ -2,6 +2,5 @@ pub mod ClaimMoves
 pub mod GivenTries
 pub mod Placing
 pub mod Refusals
-pub mod SameOutcomes
 pub mod Texts
 pub mod Viewing

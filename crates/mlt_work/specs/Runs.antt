@@ -1,12 +1,12 @@
 -- What the scripts of clients have done, once they were run side by side.
-use Rattle.std.specs.Prelude.{◌≡◌, ◌↔◌, ℕ, All, List}
+use Rattle.std.specs.Prelude.{◌≡◌, ℕ, All, List}
 use Rattle.mlt_types.specs.declared.refusal.Refusal.{Refusal}
 use Rattle.mlt_script.specs.Scripts.{ScriptForm}
 use Rattle.mlt_script_serial.specs.{Clients.AreOutcomes, Clients.AreRunsAt, declared.outcome.End.End, declared.outcome.End.TheVariants.Refused, declared.outcome.Outcome.Outcome, declared.report.Report.Report}
 use Rattle.mlt_trace_audit.specs.{Agreement.Agrees, Committed.IsBaseOfOutcomes}
 use Rattle.mlt_manager.specs.{Managers.ManagerFields, Openings.IsMadeWith}
 use Rattle.mlt_work_desk.specs.{Holds.Answers, Views.DeskView, declared.tries.Tries.Tries, declared.tries.Tries.TheVariants.PerScript}
-use Rattle.mlt_work.specs.{ClientOutcomes.OutcomeRelation, Places.AreAllOutcomes, declared.running.RunOptions.RunOptions}
+use Rattle.mlt_work.specs.{Places.AreAllOutcomes, declared.running.RunOptions.RunOptions}
 
 -- what a script may be refused with
 abbrev pub IsScriptRefusal : Refusal → Type 0
@@ -37,10 +37,6 @@ pub record AreRunWith {P : Type 0} (bits_of : P → ℕ → ℕ) (tries : Tries)
   pub given : before.tries.given ≡ tries
   -- the outcomes are what it has answered, and it spends tries and gives up as a desk may
   pub runs : AreRunsAt (Answers bits_of) scripts before outcomes after
-
--- both relations say the same of scripts and outcomes
-abbrev pub AreSame : OutcomeRelation → OutcomeRelation → Type 0
-AreSame one other = (scripts : List ScriptForm) (outcomes : List Outcome) → (one scripts outcomes ↔ other scripts outcomes)
 
 -- The report of the scripts of each client, which were run with these options on this manager, made with this function from
 -- keys to pseudokeys.

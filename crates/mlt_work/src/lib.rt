@@ -10,7 +10,6 @@
 
 mod claim_handles;
 mod client_order;
-mod client_outcomes;
 mod collecting;
 mod counter;
 mod engine;

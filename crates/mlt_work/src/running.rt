@@ -6,11 +6,10 @@ ghost use Rattle.mlt_work_desk.specs.Makings.{making_by};
 ghost use Rattle.mlt_work_desk.specs.Playing.{IsPlayed};
 ghost use Rattle.mlt_work_desk.specs.declared.tries.Tries.TheVariants.{PerScript};
 ghost use Rattle.mlt_work.specs.Places.{scripts_of_clients};
-ghost use Rattle.mlt_work.specs.Runs.{AreRunWith, AreSame, HasRunAll};
+ghost use Rattle.mlt_work.specs.Runs.{HasRunAll};
 
 use crate::claim_handles::ClientCounter;
 use crate::client_order::ClientOrder;
-use crate::client_outcomes::ClientOutcomes;
 use crate::collecting::{collect, empty_slots};
 use crate::forms::jobs_for;
 use crate::reporting::report_of;
@@ -45,7 +44,6 @@ pub struct RunOptions {
 }
 
 fn run_with<
-    O: ClientOutcomes,
     L: MadeWith<P> + Send + Sync,
     P: Pseudo + Drop + Send,
     R: Threads + Wait + Clock + Sync,
@@ -67,8 +65,7 @@ fn run_with<
     requires nine { records.blank.parts ≡ 9 }
     requires some { 0 < options.now.workers }
     requires most { options.now.workers ≤ 8 }
-    requires outcomes { AreSame O.are_outcomes
-        (AreRunWith P.bits_of (PerScript options.now.tries)) }
+    requires tries { PerScript options.now.tries ≡ L.tries }
     ensures ran { IfOk result (λ got.
         HasRunAll P.bits_of (scripts_of_clients clients.now) options.now pseudo got.0 got.1
         × (got.1.shared.history.handed ≡ [])) }
@@ -108,7 +105,7 @@ fn run_with<
             return Err(Refusal::OutOfMemory);
         }
     };
-    let (outcomes, events) = match collect::<O, L>(
+    let (outcomes, events) = match collect::<P, L>(
         alloc, counter, clients, first, &mut all, slots, results,
     ) {
         Ok(got) => got,
@@ -127,10 +124,10 @@ fn run_with<
     }
 }
 
-/// Runs the scripts of all clients on a new manager, with these options. Each worker claims a client, runs
-/// its scripts in order, after those of the clients that the options have come first, and claims the next; each call of the manager is one event, under one lock. A script that
-/// waits or is blocked more often than it has tries is aborted, as is one of which an operation is refused; its outcome says
-/// why.
+/// Runs the scripts of all clients on a new manager, with these options. Each worker claims a client, runs its scripts in order,
+/// after those of the clients that the options have come first, and claims the next; each call of the manager is one event, under
+/// one lock. A script that waits or is blocked more often than it has tries is aborted, as is one of which an operation is refused;
+/// its outcome says why.
 ///
 /// # Errors
 /// `OutOfMemory`, where a growth was refused outside a script. `Audit`, where the outcomes do not agree with the manager's
@@ -157,5 +154,5 @@ pub fn run<P: Pseudo + Drop + Send, R: Threads + Wait + Clock + Sync, G: Gate + 
         (λ refusal. (refusal ≡ Refusal.OutOfMemory) ⊎ (refusal ≡ Refusal.Audit)) }
 {
     let records = BlankRecords::new(alloc, 9)?;
-    run_with::<Brand, Brand, P, R, G>(rt, alloc, records, pseudo, clients, options, gate)
+    run_with::<Brand, P, R, G>(rt, alloc, records, pseudo, clients, options, gate)
 }

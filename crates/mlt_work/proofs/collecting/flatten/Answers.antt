@@ -1,12 +1,12 @@
 use Rattle.std.proofs.Common.{◌≡◌, ◌+◌, ◌∷◌, ◌++◌, [], List, ℕ, map, take, get_or, sym, ◌∙◌, subst, arith, Vec, Global, Some, None, Option, IfSome, IsSome, length-set, get_or-set_other}
 use Rattle.std.proofs.lemmas.List.{length-map, take_more}
 use Rattle.mlt_script.specs.{declared.script.Script.Script, Scripts.ScriptForm}
-use Rattle.mlt_work.{specs.declared.forms.ClientRun.ClientRun, specs.Places.IsClientRun, proofs.Placing.all_push, proofs.Placing.get_any}
+use Rattle.mlt_work.{specs.declared.forms.ClientRun.ClientRun, specs.Places.IsClientRun, specs.Runs.AreRunWith, proofs.Placing.all_push, proofs.Placing.get_any}
 use Rattle.mlt_work.proofs.collecting.flatten.Goals as goal
 
 pub loop-i-preserved : goal.loop-i-preserved
 loop-i-preserved g c =
-    let are_outcomes = g.O.ClientOutcomes.are_outcomes in
+    let are_outcomes = AreRunWith g.P.Pseudo.bits_of g.L.MadeWith.tries in
     let l = c.loop-i in
     let items = λ (client : Vec Script Global). client.items in
     let lists : List (List ScriptForm) = map items c.args.clients.now in

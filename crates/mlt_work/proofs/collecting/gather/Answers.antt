@@ -1,6 +1,6 @@
 use Rattle.std.proofs.Common.{◌≡◌, ◌<◌, ◌+◌, ◌++◌, List, ℕ, length, map, sym, ap, ◌∙◌, subst, arith, Vec, Global, inr, Some, false}
 use Rattle.std.proofs.lemmas.List.{length-map, Elements.All-pop}
-use Rattle.mlt_work.{specs.declared.claim_handles.ClaimView.ClaimView, specs.Claims.times, specs.ClaimHandles.view_of, specs.Workers.HasWorked, specs.Places.HaveRuns, specs.Places.place_of, proofs.Placing.filled_join, proofs.Placing.past_join}
+use Rattle.mlt_work.{specs.declared.claim_handles.ClaimView.ClaimView, specs.Claims.times, specs.ClaimHandles.view_of, specs.Workers.HasWorked, specs.Places.HaveRuns, specs.Places.place_of, specs.Runs.AreRunWith, proofs.Placing.filled_join, proofs.Placing.past_join}
 use Rattle.mlt_script.specs.{declared.script.Script.Script, Scripts.ScriptForm}
 use Rattle.mlt_work.proofs.collecting.gather.Goals as goal
 
@@ -12,7 +12,7 @@ loop-worked-preserved g c =
     let lists : List (List ScriptForm) = map items clients in
     let long : length lists ≡ length clients = length-map clients items in
     let w = c.in-Some.worked in
-    let popped = All-pop (λ (w : _). HasWorked g.O.ClientOutcomes.are_outcomes c.args.counter.now lists w.claim_handle w.runs.items w.failed) l.rest.items c.pop.new.self.items (Some w) c.in-Some.ensures.items l.invariant.each in
+    let popped = All-pop (λ (w : _). HasWorked (AreRunWith g.P.Pseudo.bits_of g.L.MadeWith.tries) c.args.counter.now lists w.claim_handle w.runs.items w.failed) l.rest.items c.pop.new.self.items (Some w) c.in-Some.ensures.items l.invariant.each in
     let mine = popped.1 in
     let both = c.join.ensures.both in
     let first = view_of l.first in

@@ -1,11 +1,7 @@
 use Rattle.std.proofs.Common.{false, Some}
 use Rattle.mlt_work_desk.specs.LogHandles.{id_of}
 use Rattle.mlt_work_desk.specs.{Makings.making_by, declared.tries.Tries.TheVariants.PerScript}
-use Rattle.mlt_work.specs.Runs.{AreRunWith}
 use Rattle.mlt_work.proofs.running.run.Given as goal
-
-abbrev pub ghosts-run_with-O-ClientOutcomes : goal.ghosts-run_with-O-ClientOutcomes
-ghosts-run_with-O-ClientOutcomes g a = record { are_outcomes = AreRunWith g.P.Pseudo.bits_of (PerScript a.options.now.tries) }
 
 abbrev pub ghosts-run_with-L-Ledger : goal.ghosts-run_with-L-Ledger
 ghosts-run_with-L-Ledger g a = record { name = a.records.blank.name; parts = a.records.blank.parts }
