@@ -12,7 +12,9 @@ use mlt_serve_admin::SessionView;
 use mlt_serve_connections::{
     Cut, Note, Notes, ThreadLimit, is_broken, is_read_out, is_readable, read_away_now,
 };
-use mlt_work_waits::tuning::{EVENTS_PER_POLL, LINGER_SECONDS, SUPERVISION_MILLISECONDS};
+use mlt_work_waits::tuning::{
+    EVENTS_PER_POLL, LINGER_SECONDS, STOP_SECONDS, SUPERVISION_MILLISECONDS,
+};
 use slab::Slab;
 use std::alloc::{AllocError, Global};
 use std::net::{Shutdown, TcpStream};
@@ -105,8 +107,13 @@ impl<'a> Lobby<'a> {
         self.door.count_ended();
     }
 
-    /// Parks a connection until it has something to read. Where memory is refused, it is closed.
+    /// Parks a connection until it has something to read. Where memory is refused, it is closed. Where the server is to stop, a client hears
+    /// that no more answers follow, once all that it has sent is answered.
     pub(crate) fn park<R: Wait + Clock>(&self, rt: &R, connection: Connection) {
+        if self.door.stops() && !is_readable(&connection.stream) {
+            self.dismiss(rt, connection);
+            return;
+        }
         let client = connection.client;
         self.parked.fetch_add(1, Ordering::SeqCst);
         if !self.let_in(rt, Guest::Parked(connection)) {
@@ -114,6 +121,13 @@ impl<'a> Lobby<'a> {
             self.count_ended();
             self.notes.tell(rt, Note::SessionCut(client, Cut::Memory));
         }
+    }
+
+    /// A connection ends that is not parked.
+    fn dismiss<R: Wait + Clock>(&self, rt: &R, connection: Connection) {
+        let Connection { stream, .. } = connection;
+        self.see_out(rt, stream);
+        self.count_ended();
     }
 
     /// Tells a client that no more answers follow, and closes its connection once it has closed it too, or after a second.
@@ -171,12 +185,14 @@ impl<'a> Lobby<'a> {
         }
     }
 
-    /// One has something to read, or has gone: a session thread is to take it, unless there is only its end.
+    /// One has something to read, or has gone: a session thread is to take it, unless there is only its end, or it is late, since the
+    /// server was to stop some seconds ago.
     fn call<R: Wait + Clock>(
         &self,
         rt: &R,
         event: &Event,
         now: Option<Instant>,
+        is_late: bool,
         to: &Sender<Connection, Global>,
     ) {
         let Token(key) = event.token();
@@ -199,6 +215,11 @@ impl<'a> Lobby<'a> {
                 self.count_ended();
                 return;
             }
+        }
+        if is_late {
+            self.notes.tell(rt, Note::SessionCut(client, Cut::Stop));
+            self.dismiss(rt, connection);
+            return;
         }
         connection.queued_since = now;
         self.limit.queue();
@@ -392,14 +413,20 @@ impl<'a> LobbyKeeper<'a> {
             to,
         } = self;
         let pause = Duration::from_millis(SUPERVISION_MILLISECONDS);
+        let late = Duration::from_secs(STOP_SECONDS);
         let mut last = Instant::now(rt).ok();
+        let mut stops_since: Option<Instant> = None;
         for _ in rt.forever() {
             if poll.poll(&mut events, Some(pause)).is_err() {
                 thread::sleep(rt, pause);
             }
             let now = Instant::now(rt).ok();
+            if lobby.door.stops() {
+                stops_since = stops_since.or(now);
+            }
+            let is_late = elapsed(stops_since, now).is_some_and(|time| time >= late);
             for event in events.iter() {
-                lobby.call(rt, event, now, &to);
+                lobby.call(rt, event, now, is_late, &to);
             }
             if elapsed(last, now).is_none_or(|time| time >= pause) {
                 last = now;
