@@ -22,12 +22,11 @@
 #include <stdbool.h>
 #include <string.h>
 #include <sys/socket.h>
-#include <time.h>
 #include <unistd.h>
 
 #include "common.h"
 
-enum { MOST_CONNECTIONS = 64, MOST_LATENCIES = 1 << 24, MOST_DRAWN = 4 };
+enum { MOST_CONNECTIONS = 1 << 10, MOST_LATENCIES = 1 << 24, MOST_DRAWN = 4 };
 /* For how long a thread sleeps at most before it looks whether the load is over. */
 static const double LONGEST_SLEEP = 0.05;
 /* How many bytes a line may have as it is given, what it may come to, and what all lines of a transaction may come to. */
@@ -79,20 +78,10 @@ static _Thread_local double started;
 /* How many of them go on by themselves. */
 static _Thread_local int waiting;
 
-static double now(void)
-{
-    struct timespec time;
-    clock_gettime(CLOCK_MONOTONIC, &time);
-    return (double)time.tv_sec + (double)time.tv_nsec / 1e9;
-}
-
-/* The next number of a xorshift generator, below a limit. */
+/* A number that is drawn, below a limit. */
 static unsigned long some_number(unsigned long limit)
 {
-    random_state ^= random_state << 13;
-    random_state ^= random_state >> 7;
-    random_state ^= random_state << 17;
-    return (random_state >> 16) % limit;
+    return draw_below(&random_state, limit);
 }
 
 static bool is_among(unsigned long number, const unsigned long *numbers, int count)
@@ -405,7 +394,7 @@ static void *run_thread(void *given)
     seen->latencies = calloc(MOST_LATENCIES, sizeof *seen->latencies);
     if (seen->latencies == NULL)
         give_up("load: calloc");
-    random_state = (options.seed + (unsigned long)thread * 1000003) * 0x9E3779B97F4A7C15UL + 1;
+    random_state = first_state(options.seed, (unsigned long)thread);
     run(&connections[first], first_of(thread + 1) - first);
     return NULL;
 }
@@ -440,12 +429,6 @@ static struct seen gathered(void)
     return all;
 }
 
-static int compare(const void *left, const void *right)
-{
-    float first = *(const float *)left, second = *(const float *)right;
-    return (first > second) - (first < second);
-}
-
 /* So that so many in a hundred are not above it. */
 static double percentile(const struct seen *all, size_t hundredth)
 {
@@ -455,7 +438,7 @@ static double percentile(const struct seen *all, size_t hundredth)
 static void report(void)
 {
     struct seen all = gathered();
-    qsort(all.latencies, all.ended, sizeof *all.latencies, compare);
+    qsort(all.latencies, all.ended, sizeof *all.latencies, compare_floats);
     printf("transactions %zu seconds %.6f median %.2f ninety_ninth %.2f ", all.ended, all.seconds, percentile(&all, 50),
            percentile(&all, 99));
     printf("refused %zu aborted %zu most_tries %zu\n", all.refusals, all.aborted, all.most_tries);

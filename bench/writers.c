@@ -16,7 +16,6 @@
 #include <stdatomic.h>
 #include <stdbool.h>
 #include <string.h>
-#include <time.h>
 #include <unistd.h>
 
 #include "common.h"
@@ -42,28 +41,12 @@ static struct client clients[MOST_CLIENTS];
 static atomic_long begun;
 static double started;
 
-static double now(void)
-{
-    struct timespec time;
-    clock_gettime(CLOCK_MONOTONIC, &time);
-    return (double)time.tv_sec + (double)time.tv_nsec / 1e9;
-}
-
 static void expect(sqlite3 *database, bool is_so)
 {
     if (!is_so) {
         fprintf(stderr, "writers: %s\n", sqlite3_errmsg(database));
         exit(1);
     }
-}
-
-/* The next number of a xorshift generator, below a limit. */
-static unsigned long some_number(struct client *it, unsigned long limit)
-{
-    it->random_state ^= it->random_state << 13;
-    it->random_state ^= it->random_state >> 7;
-    it->random_state ^= it->random_state << 17;
-    return (it->random_state >> 16) % limit;
 }
 
 static sqlite3 *opened(const char *setup)
@@ -90,7 +73,7 @@ static void open_client(struct client *it, long number)
     it->rollback = prepare(it->database, "ROLLBACK");
     for (int place = 0; place < 2; place++)
         it->changes[place] = prepare(it->database, words[2 + place]);
-    it->random_state = (unsigned long)(options.seed + number * 1000003) * 0x9E3779B97F4A7C15UL + 1;
+    it->random_state = first_state((unsigned long)options.seed, (unsigned long)number);
     it->latencies = calloc(MOST_LATENCIES, sizeof *it->latencies);
     if (it->latencies == NULL)
         give_up("writers: calloc");
@@ -114,8 +97,8 @@ static void change(struct client *it, sqlite3_stmt *statement, long drawn)
 
 static void run_transaction(struct client *it)
 {
-    long drawn = (long)some_number(it, (unsigned long)options.drawn);
-    bool aborts = options.aborts > 0 && some_number(it, (unsigned long)options.aborts) == 0;
+    long drawn = (long)draw_below(&it->random_state, (unsigned long)options.drawn);
+    bool aborts = options.aborts > 0 && draw_below(&it->random_state, (unsigned long)options.aborts) == 0;
     do_statement(it, it->begin);
     for (int place = 0; place < 2; place++)
         change(it, it->changes[place], drawn);
@@ -149,12 +132,6 @@ static void run_all(void)
         pthread_join(threads[number], NULL);
 }
 
-static int compare(const void *left, const void *right)
-{
-    float first = *(const float *)left, second = *(const float *)right;
-    return (first > second) - (first < second);
-}
-
 static void report(double seconds)
 {
     size_t ended = 0, aborted = 0;
@@ -169,7 +146,7 @@ static void report(double seconds)
         memcpy(to, clients[number].latencies, clients[number].ended * sizeof *all);
         to += clients[number].ended;
     }
-    qsort(all, ended, sizeof *all, compare);
+    qsort(all, ended, sizeof *all, compare_floats);
     size_t last = ended == 0 ? 0 : ended - 1;
     printf("transactions %zu seconds %.6f median %.2f ninety_ninth %.2f aborted %zu\n", ended, seconds, all[last / 2],
            all[last * 99 / 100], aborted);
