@@ -5,6 +5,7 @@ wait has a limit of time."""
 import ctypes
 import os
 import re
+import resource
 import select
 import signal
 import socket
@@ -101,6 +102,10 @@ class Server:
         pages = int(Path(f"/proc/{self.process}/statm").read_text().split()[1])
         return pages * os.sysconf("SC_PAGE_SIZE")
 
+    def processor_seconds(self) -> float:
+        """For how long it has had processors, with the system's work for it. The number of this clock is made of its own."""
+        return time.clock_gettime(~self.process << 3 | 2)
+
 
 @contextmanager
 def listening(words: Words) -> Iterator[Server]:
@@ -136,13 +141,22 @@ def wait_for(port: int, process: Process) -> None:
 
 
 @contextmanager
-def redis(folder: Path) -> Iterator[Server]:
+def redis(folder: Path, *options: object) -> Iterator[Server]:
     """A Redis that keeps nothing on disk."""
     port = free_port()
-    words = ["redis-server", "--bind", LOCAL, "--port", port, "--dir", folder, "--save", "", "--appendonly", "no"]
+    words = ["redis-server", "--bind", LOCAL, "--port", port, "--dir", folder, "--save", "", "--appendonly", "no", *options]
     with started(words, stdout=subprocess.DEVNULL, stderr=subprocess.DEVNULL) as process:
         wait_for(port, process)
         yield Server(port, process.pid)
+
+
+def allow_descriptors(count: int) -> None:
+    """From now on what is started may have so many files and connections open."""
+    soft, hard = resource.getrlimit(resource.RLIMIT_NOFILE)
+    if hard not in (resource.RLIM_INFINITY, max(hard, count)):
+        raise Failed(f"{count} descriptors are wanted, and {hard} allowed (ulimit -Hn)")
+    if soft not in (resource.RLIM_INFINITY, max(soft, count)):
+        resource.setrlimit(resource.RLIMIT_NOFILE, (count, hard))
 
 
 @contextmanager

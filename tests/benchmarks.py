@@ -91,7 +91,7 @@ def check_csv(folder: Path, rows: Rows) -> None:
         holds(row["build"].endswith("(quick)") and row["rounds"] == "1" and row["load"] and row["date"], f"{row}")
 
 
-@test(seconds=20)
+@test(seconds=25)
 def each_benchmark_runs_through(mltx: Program) -> None:
     """Each group has lines with a figure, or is told to be left out, which nothing is that needs a C compiler alone."""
     plot = mltx.folder / "plot.svg"
@@ -121,14 +121,24 @@ def plot_of_what_is_not_measured(mltx: Program) -> None:
     holds(ran.returncode == 2 and not ran.stdout and "--plot" in ran.stderr, f"{ran}")
 
 
-def load(mltx: Program, port: int, *words: str) -> dict[str, float]:
-    """What the load generator tells of a server, by name."""
-    program = mltx.folder / "load"
+def generator(mltx: Program, name: str) -> Path:
+    """A load generator, which is built once."""
+    program = mltx.folder / name
     if not program.exists():
-        subprocess.run(["cc", "-o", program, ROOT / "bench/load.c"], check=True)
-    ran = subprocess.run([program, "--port", str(port), *words], capture_output=True, text=True, check=True, timeout=PATIENCE)
-    told = ran.stdout.split()
-    return {name: float(figure) for name, figure in zip(told[::2], told[1::2])}
+        subprocess.run(["cc", "-pthread", "-o", program, ROOT / f"bench/{name}.c"], check=True)
+    return program
+
+
+def figures(told: str) -> dict[str, float]:
+    """What a load generator tells, by name."""
+    words = told.split()
+    return {name: float(figure) for name, figure in zip(words[::2], words[1::2])}
+
+
+def load(mltx: Program, port: int, *words: str, name: str = "load") -> dict[str, float]:
+    """What a load generator tells of a server, by name."""
+    asked = command([generator(mltx, name), "--port", str(port), *words])
+    return figures(subprocess.run(asked, capture_output=True, text=True, check=True, timeout=PATIENCE).stdout)
 
 
 @test(seconds=1)
@@ -216,12 +226,12 @@ class Watches(socketserver.BaseRequestHandler):
                 self.request.sendall("".join(f"{answers[word]}\r\n" for word in words).encode())
 
 
-def load_on(handler: type[socketserver.BaseRequestHandler], mltx: Program, *words: str) -> dict[str, float]:
-    """What the load generator tells of a server that answers one connection in this way."""
+def load_on(handler: type[socketserver.BaseRequestHandler], mltx: Program, *words: str, name: str = "load") -> dict[str, float]:
+    """What a load generator tells of a server that answers one connection in this way."""
     with socketserver.TCPServer((LOCAL, 0), handler) as server:
         answering = threading.Thread(target=server.handle_request)
         answering.start()
-        told = load(mltx, server.server_address[1], *words)
+        told = load(mltx, server.server_address[1], *words, name=name)
         answering.join(PATIENCE)
     return told
 
@@ -255,6 +265,73 @@ def load_generator_runs_again_what_gave_up(mltx: Program) -> None:
     for (before, words), (after, _) in zip(GivesUp.heard, GivesUp.heard[1:]):
         holds(words != "abort" or after - before >= 0.002, f"it begins again after {after - before} seconds")
     holds(told["median"] >= 4_000, f"a transaction is not timed from its first try: {told}")
+
+
+@test(seconds=1)
+def clients_tell_what_the_server_keeps(mltx: Program) -> None:
+    """Each of eight clients commits three times, with a line a round trip or in one write, and adds to three counters each time.
+    Those that pause take longer. They stay connected until they are killed, where that is asked for."""
+    if not shutil.which("cc"):
+        return
+    words = ["--clients", "8", "--each", "3", "--counters", "2", "--threads", "2"]
+    with mltx.serve(limit=25, address=(LOCAL, 0)) as server:
+        server.address = LOCAL, int(server.first_line().rpartition(":")[2])
+        port = server.address[1]
+        for way in (["--pause", "2000"], ["--whole"]):
+            told = load(mltx, port, *words, *way, name="clients")
+            same([told[name] for name in ("transactions", "fewest", "middle", "most")], [24, 3, 3, 3], "what they tell")
+            holds(told["seconds"] >= 0.004 or "--whole" in way, f"they don't pause: {told}")
+            holds(0 < told["round_trip"] <= told["ninety_ninth"] + 0.01 and told["connected"] > 0, f"{told}")
+        stay = command([generator(mltx, "clients"), "--port", str(port), *words, "--stay"])
+        with subprocess.Popen(stay, stdout=subprocess.PIPE, text=True) as staying:
+            try:
+                same(figures(next(iter(staying.stdout or ()), ""))["transactions"], 24, "the commits of those that stay")
+                same(staying.poll(), None, "the status of those that stay")
+            finally:
+                staying.kill()
+        kept = server.talk("begin\nread 0\nread 1\n").decode().split()
+    same(sum(int(word) for word in kept[2:] if word.isdigit()), 3 * 3 * 24, f"the sum of both counters: {kept}")
+
+
+class Counts(Watches):
+    """A Redis that does every EXEC of three commands, and keeps the commands of each write."""
+
+    heard: list[list[str]] = []
+
+    def handle(self) -> None:
+        answers = {"MULTI": "+OK", "INCRBY": "+QUEUED", "EXEC": "*3\r\n:1\r\n:-1\r\n:1"}
+        with may_break_off():
+            while write := self.request.recv(4096):
+                words = re.findall(r"(?m)^[A-Z]+", write.decode())
+                self.heard.append(words)
+                self.request.sendall("".join(f"{answers[word]}\r\n" for word in words).encode())
+
+
+@test
+def clients_talk_to_redis(mltx: Program) -> None:
+    """A command a round trip, or all in one write. The answer to EXEC has a line for each of its commands."""
+    if not shutil.which("cc"):
+        return
+    transaction = ["MULTI", *["INCRBY"] * 3, "EXEC"]
+    ways: dict[str, list[list[str]]] = {"--redis": [[word] for word in transaction], "--whole": [transaction]}
+    for way, heard in ways.items():
+        Counts.heard.clear()
+        told = load_on(Counts, mltx, "--redis", "--each", "2", way, name="clients")
+        same((told["transactions"], Counts.heard), (2, 2 * heard), "what they tell, and what they send")
+
+
+@test
+def clients_end_where_they_are_refused(mltx: Program) -> None:
+    """No figure is told of a load that a server refuses something."""
+    if not shutil.which("cc"):
+        return
+    with socketserver.TCPServer((LOCAL, 0), GivesUp) as server:
+        answering = threading.Thread(target=server.handle_request)
+        answering.start()
+        words = command([generator(mltx, "clients"), "--port", str(server.server_address[1]), "--each", "1"])
+        ran = subprocess.run(words, capture_output=True, text=True, timeout=PATIENCE)
+        answering.join(PATIENCE)
+    same((ran.returncode, ran.stdout, ran.stderr.split("\n")[0]), (1, "", "clients: refused: error 14 GaveUp"), "how they end")
 
 
 def commands_with(text: str) -> list[str]:
