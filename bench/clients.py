@@ -9,12 +9,14 @@ from pathlib import Path
 
 from machine import LOCAL, PIPES, Failed, Process, Server, allow_descriptors, busy, listening, redis, started
 from retries import ACCOUNTS, transfers, tries
-from sessions import CLIENT_THREADS, SESSIONS, WAYS, figures, loading, open_accounts, rate
+from sessions import CLIENT_THREADS, SESSIONS, THREE, WAYS, Load, beside, figures, loading, open_accounts, rate
 from works import Bench, Group, Limit, Sample, Side, Work
 
 COUNTERS = 50_000
 # How many clients are idle, how many come at once, and how many connections a server has room for.
 IDLE, BURST, ROOM = 10_000, 5_000, 12_000
+# Clients that stream, each with so many transactions in one write.
+STREAM = Load(THREE * 16, 4, whole=True, counters=COUNTERS, threads=2)
 # How many seconds pass until idle clients are looked at, and for how long that is done.
 SETTLE, WATCHED = 1.0, 5.0
 
@@ -90,10 +92,10 @@ def sample(told: dict[str, float], seconds: float) -> Sample:
     })
 
 
-def crowd_on(system: System, crowd: Crowd, idle: int, beside: int, bench: Bench, program: Path) -> Sample:
+def crowd_on(system: System, crowd: Crowd, idle: int, processes: int, bench: Bench, program: Path) -> Sample:
     """The rate of these clients beside so many that are idle, and so many busy processes."""
     idle = bench.pick(idle, min(idle, 100))
-    with system.start(bench, program) as server, busy(beside):
+    with system.start(bench, program) as server, busy(processes):
         with idle_beside(bench, system, server, idle) if idle else nullcontext():
             time.sleep(bench.pick(SETTLE, 0) if idle else 0)
             return sample(*told_of(bench, system, server, crowd))
@@ -121,6 +123,12 @@ def burst_on(system: System, bench: Bench, program: Path) -> Sample:
     return Sample(told["connected"] + told["seconds"], more={"connected, s": told["connected"]})
 
 
+def beside_streams(streams: tuple[Load, ...], bench: Bench, program: Path) -> Sample:
+    """The rate of a client that sends a line a round trip, beside these."""
+    with mltx_server(bench, program) as server:
+        return rate(beside(streams, bench, server)[0])
+
+
 def deadlocks_of(clients: int, bench: Bench, program: Path) -> Sample:
     """How often clients that deadlock begin a transaction until it commits."""
     load, limit = transfers(clients), Limit(bench.pick(2 * bench.seconds, 0.2))
@@ -139,8 +147,8 @@ def sides(measure: Callable[[System], Callable[[Bench, Path], Sample]]) -> tuple
     return tuple(Side(it.name, measure(it), NEEDS[it.name]) for it in (MLTX, REDIS))
 
 
-def crowds(crowd: Crowd, idle: int = 0, beside: int = 0) -> tuple[Side, ...]:
-    return sides(lambda system: partial(crowd_on, system, crowd, idle, beside))
+def crowds(crowd: Crowd, idle: int = 0, processes: int = 0) -> tuple[Side, ...]:
+    return sides(lambda system: partial(crowd_on, system, crowd, idle, processes))
 
 
 def works() -> Iterator[Work]:
@@ -154,8 +162,13 @@ def works() -> Iterator[Work]:
         alone = Side("without them", partial(crowd_on, MLTX, crowd, 0, 0), NEEDS["mltx"])
         both = (*crowds(crowd, idle=IDLE), alone)
         yield Work("clients", f"{SESSIONS} clients beside {IDLE:,} idle ones, {way}", "transactions/s", both)
-        both = crowds(crowd, beside=2)
+        both = crowds(crowd, processes=2)
         yield Work("clients", f"{SESSIONS} clients, {way}, 2 busy processes beside", "transactions/s", both)
+    both = (
+        Side("mltx", partial(beside_streams, (STREAM,)), ("load",)),
+        Side("without them", partial(beside_streams, ()), ("load",)),
+    )
+    yield Work("clients", f"a client, a line a round trip, beside {STREAM.connections} that stream", "transactions/s", both)
     yield Work("clients", f"{IDLE:,} idle clients take, each", "KiB", sides(lambda system: partial(idle_on, system)))
     what = f"{BURST:,} clients come at once, and each commits"
     yield Work("clients", what, "s", sides(lambda system: partial(burst_on, system)))
