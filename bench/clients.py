@@ -13,8 +13,8 @@ from sessions import CLIENT_THREADS, SESSIONS, THREE, WAYS, Load, beside, figure
 from works import Bench, Group, Limit, Sample, Side, Work
 
 COUNTERS = 50_000
-# How many clients are idle, how many come at once, and how many connections a server has room for.
-IDLE, BURST, ROOM = 10_000, 5_000, 12_000
+# How many clients are idle, how many come at once, how many connections a server has room for, and how many more descriptors.
+IDLE, BURST, ROOM, SPARE = 10_000, 5_000, 11_000, 200
 # Clients that stream, each with so many transactions in one write.
 STREAM = Load(THREE * 16, 4, whole=True, counters=COUNTERS, threads=2)
 # How many seconds pass until idle clients are looked at, and for how long that is done.
@@ -41,14 +41,19 @@ class System:
     start: Callable[[Bench, Path], AbstractContextManager[Server]]
 
 
-def mltx_server(_bench: Bench, program: Path) -> AbstractContextManager[Server]:
-    allow_descriptors(ROOM)
-    return listening([program, "serve", f"{LOCAL}:0", "--endless", "--sessions", SESSIONS, "--clients", ROOM])
+def room(bench: Bench) -> int:
+    """How many connections a server has room for, with some more descriptors."""
+    count = bench.pick(ROOM, 400)
+    allow_descriptors(count + SPARE)
+    return count
+
+
+def mltx_server(bench: Bench, program: Path) -> AbstractContextManager[Server]:
+    return listening([program, "serve", f"{LOCAL}:0", "--endless", "--sessions", SESSIONS, "--clients", room(bench)])
 
 
 def redis_server(bench: Bench, _program: Path) -> AbstractContextManager[Server]:
-    allow_descriptors(ROOM)
-    return redis(bench.folder, "--maxclients", ROOM - 100, "--tcp-backlog", 4_096)
+    return redis(bench.folder, "--maxclients", room(bench), "--tcp-backlog", 4_096)
 
 
 MLTX, REDIS = System("mltx", (), mltx_server), System("Redis", ("--redis",), redis_server)
@@ -66,7 +71,7 @@ def committing(bench: Bench, system: System, server: Server, crowd: Crowd, *more
 
 def told_of(bench: Bench, system: System, server: Server, crowd: Crowd) -> tuple[dict[str, float], float]:
     """What the load generator tells of these clients, and how long the server had processors meanwhile."""
-    crowd = bench.pick(crowd, replace(crowd, each=2))
+    crowd = bench.pick(crowd, replace(crowd, count=min(crowd.count, 200), each=2))
     before = server.processor_seconds()
     with committing(bench, system, server, crowd) as process:
         told = figures(process)
@@ -130,16 +135,14 @@ def beside_streams(streams: tuple[Load, ...], bench: Bench, program: Path) -> Sa
 
 
 def deadlocks_of(clients: int, bench: Bench, program: Path) -> Sample:
-    """How often clients that deadlock begin a transaction until it commits."""
-    load, limit = transfers(clients), Limit(bench.pick(2 * bench.seconds, 0.2))
+    """How often clients that deadlock begin a transaction for each that commits."""
+    load, limit = transfers(bench.pick(clients, 16)), Limit(bench.pick(2 * bench.seconds, 0.2))
     with mltx_server(bench, program) as server:
         open_accounts(server, ACCOUNTS)
         with loading(bench, server.port, load, limit) as process:
             told = figures(process)
-    if told["transactions"] == 0:
-        raise Failed("no transaction ended")
-    begun = (told["transactions"] + told["refused"]) / told["transactions"]
-    return Sample(begun, told["median"], told["ninety_ninth"], {"commits/s": rate(told).value, **tries(told)})
+    more = tries(told)
+    return Sample(1 + more["GaveUp/commit"], told["median"], told["ninety_ninth"], {"commits/s": rate(told).value, **more})
 
 
 def sides(measure: Callable[[System], Callable[[Bench, Path], Sample]]) -> tuple[Side, ...]:
