@@ -1,14 +1,16 @@
 """Many clients of a server without end, and few session threads: who has a thread, who waits, and what a client keeps."""
+import selectors
 import socket
 import struct
 import subprocess
 import time
 from collections.abc import Iterator
-from concurrent.futures import ThreadPoolExecutor
+from concurrent.futures import ProcessPoolExecutor, ThreadPoolExecutor
 from contextlib import ExitStack, contextmanager
+from typing import cast
 
 from harness import BROKEN, BY_OPERATOR, IDLE, IS_HTTP, LONG_LINE, OPEN_LONG, Peer, Program, Server, cut_for, each, expect
-from harness import free_address, holds, lines, same, takes, test
+from harness import PATIENCE, Address, free_address, holds, lines, may_break_off, same, takes, test
 from operating import asked, comes, counts, posted
 from sessions import says_nothing
 from serving import SLACK, STOPPING, TOO_MANY, says
@@ -330,6 +332,43 @@ def descriptors_run_out(mltx: Program) -> None:
             peer.socket.close()
         same([commits(peer) for peer in peers[room:]], list(range(room + 1, room + 6)), "the commits of the others")
         ends(server, room + 5)
+
+
+def go_on(address: Address, count: int) -> int:
+    """So many clients, each of which begins again once it is answered, until their connections end: how often they commit."""
+    commits, transaction = 0, b"begin\nup 1 1\ncommit\n"
+    with selectors.DefaultSelector() as selector:
+        for _ in range(count):
+            client = socket.create_connection(address, PATIENCE)
+            selector.register(client, selectors.EVENT_READ)
+            client.sendall(transaction)
+        while selector.get_map():
+            for key, _ in selector.select(PATIENCE):
+                client = cast(socket.socket, key.fileobj)
+                heard = b""
+                with may_break_off():
+                    heard = client.recv(65_536)
+                    commits += heard.count(b"committed")
+                    if heard.count(b"committed"):
+                        client.sendall(transaction)
+                if not heard:
+                    selector.unregister(client)
+                    client.close()
+    return commits
+
+
+@test(seconds=3)
+def stop_of_clients_that_go_on(mltx: Program) -> None:
+    """Forty clients of four processes with two threads, each of which begins again once it is answered: all hear the end of their
+    connections, and the server ends at once."""
+    with parking(mltx) as server, ProcessPoolExecutor(4) as processes:
+        going = [processes.submit(go_on, server.address, 10) for _ in range(4)]
+        comes(server, "/status", lambda told: told["commits"] > 20_000, "they commit")
+        with takes(0, 2, "the end of the server"):
+            same(posted(server, "/stop")[0], 200, "the command")
+            ended = server.end(said="")
+        holds(min(it.result(PATIENCE) for it in going) > 0, "some have never committed")
+        holds(ended.out == b"served 40\n" and STOPPING in ended.notes, f"{ended}")
 
 
 @test(seconds=2)
