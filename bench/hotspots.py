@@ -16,8 +16,8 @@ from postgres import RICH
 from sessions import CLIENT_THREADS, Load, figures_of, mltx_server, open_accounts, transaction
 from works import Bench, Group, Limit, Sample, Side, Work
 
-sys.path.insert(0, str(ROOT / "tools"))
-from pictures.plot import Curve, picture  # noqa: E402
+sys.path.insert(0, str(ROOT / "histories"))
+from mltx_histories.pictures.plot import Curve, picture  # noqa: E402
 
 # By its name what each system does, by the number of clients.
 Curves = dict[str, dict[int, float]]

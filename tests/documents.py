@@ -22,7 +22,7 @@ NAME_LINK = re.compile(r"\[`(\w+)`\]\(\.\./crates/(\w+)/([^)\s#]+)\)")
 def pages() -> dict[Path, str]:
     """The documents of the repository, with their texts."""
     found = [*ROOT.glob("*.md"), *(ROOT / "docs").glob("*.md"), *(ROOT / "examples").glob("*.md")]
-    return {page: page.read_text() for page in [*found, *(ROOT / "clients").glob("*/README.md")]}
+    return {page: page.read_text() for page in [*found, ROOT / "histories/README.md", *(ROOT / "clients").glob("*/README.md")]}
 
 
 def anchors(text: str) -> set[str]:

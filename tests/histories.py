@@ -15,11 +15,11 @@ import model
 from documents import blocks_of, commands_of
 from harness import ROOT, Program, Ran, each, expect, holds, lines, same, test
 
-sys.path.insert(0, str(ROOT / "tools"))
-from history import text  # noqa: E402
-from history.order import find  # noqa: E402
-from history.record import check  # noqa: E402
-from history.systems import SYSTEMS  # noqa: E402
+sys.path.insert(0, str(ROOT / "histories"))
+from mltx_histories import text  # noqa: E402
+from mltx_histories.order import find  # noqa: E402
+from mltx_histories.record import check  # noqa: E402
+from mltx_histories.systems import SYSTEMS  # noqa: E402
 
 TOOL, PAGE = ROOT / "tools/histories", ROOT / "docs/HISTORIES.md"
 FOUND = "serializable: an order of {} transactions, which mltx check accepts"
@@ -130,7 +130,7 @@ def history_with_an_unknown_end(mltx: Program) -> None:
 
 @each(FAULTY, seconds=0.5)
 def faulty(mltx: Program, case: tuple[str, str]) -> None:
-    expect(order(mltx, case[0]), status=2, err=f"tools/histories: {case[1]}\n")
+    expect(order(mltx, case[0]), status=2, err=f"mltx-histories: {case[1]}\n")
 
 
 @dataclass

@@ -341,13 +341,13 @@ def page_that_is_refused(mltx: Program) -> None:
     """Too many events, a program that is not there, and a comment before all answers."""
     many = mltx.file("many.txt", "begin\ncall 1 up 1 1\n" + "step 1\n" * 499)
     ran = make("--program", mltx.path, many)
-    fault = "tools/picture: the program's answers line 501: a page has at most 500 events\n"
+    fault = "mltx-picture: the program's answers line 501: a page has at most 500 events\n"
     expect(ran, status=1, err=fault, what="501 events")
     away, schedule = mltx.folder / "away", mltx.file("schedule.txt", "begin\n")
     ran = make("--program", away, schedule, mltx.file("answers.txt", "begun 1\ndepth 0\n"))
     holds(ran.status == 1 and str(away).encode() in ran.err, f"a program that is not there: {ran}")
     answers = mltx.file("comment.out", "# why\nbegun 1\ndepth 0\n")
-    fault = f"tools/picture: {answers} line 1: `# why` is no answer to `begin` of line 1 of {schedule}\n"
+    fault = f"mltx-picture: {answers} line 1: `# why` is no answer to `begin` of line 1 of {schedule}\n"
     expect(make("--program", mltx.path, schedule, answers), status=1, err=fault, what="a comment before all answers")
 
 

@@ -353,7 +353,7 @@ def picture_of_a_long_trace(mltx: Program) -> None:
     item = "begin {0}\nop {0} up 301 1 done\ncommit {0} {0}\n"
     file = mltx.file("long.trace", "".join(item.format(number) for number in range(1, 669)))
     why = "2,004 items would be drawn, and a picture has at most 2,000: choose some by --from N, --to N or --tx N[,N..]"
-    expect(run("--trace", file), status=1, err=f"tools/picture: {file}: {why}\n")
+    expect(run("--trace", file), status=1, err=f"mltx-picture: {file}: {why}\n")
     same(picture("--trace", "--to", "2000", file).count("circle", "begin"), 667, "the transactions of 2,000 items")
     same(picture("--trace", "--from", "2002", file).said("committed")[:1], ["committed 668"], "the last one")
 
@@ -362,7 +362,7 @@ def picture_of_a_long_trace(mltx: Program) -> None:
 def part_of_a_trace_that_is_not_there(mltx: Program) -> None:
     """Nothing is asked for, or what is no number; and a page and a schedule have no parts."""
     file, schedule = mltx.file("long.trace", LONG), mltx.file("schedule.txt", "begin\n")
-    fault = f"tools/picture: {file}: it has 14 items, and none of them is asked for\n"
+    fault = f"mltx-picture: {file}: it has 14 items, and none of them is asked for\n"
     for words in (["--from", "15"], ["--tx", "5"], ["--tx", "1", "--from", "4"], ["--from", "5", "--to", "4"]):
         expect(run("--trace", *words, file), status=1, err=fault, what=f"{words}")
     for words in (["--from", "0"], ["--to", "-1"], ["--tx", "1,"], ["--tx", "x"], ["--page", "--to", "2"]):
@@ -380,7 +380,7 @@ def terminal_shows_how_far_a_picture_is(mltx: Program) -> None:
     told = os.read(terminal, 100_000).decode()
     os.close(terminal)
     for doing in ("reading", "placing", "drawing"):
-        holds(f"\rtools/picture: {doing}, 0 %" in told, f"nothing tells of {doing}: {told!r}")
+        holds(f"\rmltx-picture: {doing}, 0 %" in told, f"nothing tells of {doing}: {told!r}")
     holds(told.endswith("\r\x1b[K"), f"the line stays: {told[-40:]!r}")
     same(Ran(ran.returncode, ran.stdout, b""), run("--trace", file), "the picture")
 
@@ -433,7 +433,7 @@ TRACE_FAULTS = {
 
 def in_words(fault: str, **files: str) -> str:
     """The line of a fault, with the paths of the files for their letters."""
-    return "tools/picture: " + "".join(files.get(word, word) for word in re.split(r"\b([SAT])\b", fault)) + "\n"
+    return "mltx-picture: " + "".join(files.get(word, word) for word in re.split(r"\b([SAT])\b", fault)) + "\n"
 
 
 @each(FAULTS)
@@ -456,7 +456,7 @@ def faulty_trace(mltx: Program, case: tuple[str, str]) -> None:
 def picture_without_its_files(mltx: Program) -> None:
     """A program or a file that is not there, and command lines that are none."""
     schedule, away = mltx.file("schedule.txt", "begin\n"), f"{mltx.folder}/away"
-    fault = f"tools/picture: there is no program {away}: ./mltx builds it, or give ANSWERS\n"
+    fault = f"mltx-picture: there is no program {away}: ./mltx builds it, or give ANSWERS\n"
     expect(run("--program", away, schedule), status=1, err=fault)
     answers = mltx.file("answers.txt", "begun 1\ndepth 0\n")
     for words in ([away], [schedule, away], ["--trace", away], ["-o", f"{away}/x.svg", schedule, answers]):

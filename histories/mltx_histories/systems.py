@@ -16,7 +16,7 @@ from typing import Any, Protocol
 
 from .text import Cell, answer, effect
 
-ROOT = Path(__file__).resolve().parent.parent.parent
+ROOT = Path(__file__).resolve().parents[2]
 sys.path[:0] = [str(ROOT / "clients/python"), str(ROOT / "bench")]
 import mltx  # noqa: E402
 

@@ -1,6 +1,4 @@
 """Scenarios in which systems show anomalies, or don't."""
-import subprocess
-import sys
 from collections.abc import Iterable
 from contextlib import ExitStack
 from dataclasses import dataclass
@@ -8,10 +6,10 @@ from pathlib import Path
 
 from . import text
 from .order import find
+from .pictures.cli import picture_of_trace
 from .record import acted, check
 from .systems import Failed, Place
 
-PICTURE = Path(__file__).resolve().parent.parent / "picture"
 SECONDS = 20
 
 
@@ -70,6 +68,5 @@ def _shown(place: Place, system: str, scenario: Scenario, pictures: Path | None)
     if pictures:
         pictures.mkdir(parents=True, exist_ok=True)
         name, title = f"{system}-{scenario.name}".replace(":", "-").replace(" ", "-"), f"{system}: {scenario.name}"
-        words: list[str | Path] = [sys.executable, PICTURE, "--trace", "--title", title, "-o", pictures / f"{name}.svg", "-"]
-        subprocess.run(words, input=text.as_traced(history), text=True, check=True)
+        (pictures / f"{name}.svg").write_text(picture_of_trace(text.as_traced(history), title))
     return outcome.told

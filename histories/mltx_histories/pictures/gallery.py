@@ -7,10 +7,10 @@ from typing import NamedTuple
 
 from . import events
 from .page import page, style
-from .program import Program
+from .program import Failed, Program
 from .progress import shown
 
-ROOT = Path(__file__).resolve().parent.parent.parent
+ROOT = Path(__file__).resolve().parents[3]
 HOME, TITLE = "index.html", "Which answer is next?"
 # Those that need another hash function than that of the program.
 HASHES = {"split-beside-a-reader": "low", "exercise-9": "low"}
@@ -28,6 +28,8 @@ class Piece(NamedTuple):
 
 def make(folder: Path, program: str | Path) -> None:
     """Writes all pages into this folder."""
+    if not (ROOT / "examples").is_dir():
+        raise Failed("the gallery is made of the examples of a clone of mltx, and this package stands in none")
     folder.mkdir(parents=True, exist_ok=True)
     listed = ""
     for heading, pieces in (("Examples", examples()), ("Exercises", exercises())):

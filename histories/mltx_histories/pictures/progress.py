@@ -11,7 +11,7 @@ def shown(doing: str, things: Sequence[Thing]) -> Iterator[Thing]:
     every = max(1, len(things) // 100)
     for at, thing in enumerate(things):
         if at % every == 0:
-            _write(f"tools/picture: {doing}, {100 * at // len(things)} %")
+            _write(f"mltx-picture: {doing}, {100 * at // len(things)} %")
         yield thing
     clear()
 

@@ -1,1 +1,0 @@
-"""What tools/histories is made of."""
