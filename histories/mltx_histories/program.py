@@ -1,9 +1,17 @@
-"""Finds the program `mltx`, and whether it is proved."""
+"""Finds the program `mltx`, and has it check an order."""
 import shutil
+import subprocess
+from collections.abc import Sequence
+from functools import cache
+from math import inf
 from pathlib import Path
+
+from .systems.base import Failed
+from .text import Transaction, base, trace
 
 # Where the clone is in which the package stands, if it stands in one.
 CLONE = Path(__file__).resolve().parents[2]
+NOT_PROVED = "; this mltx is not proved"
 
 
 def found_program() -> Path:
@@ -11,3 +19,34 @@ def found_program() -> Path:
     if (CLONE / "mltx").is_file() and (CLONE / "crates").is_dir():
         return CLONE / "mltx"
     return Path(shutil.which("mltx") or "mltx")
+
+
+@cache
+def version(program: Path) -> str:
+    """What the program says that it is, as `mltx 0.1.0 (not proved)`; nothing where it is not there."""
+    try:
+        ran = subprocess.run([program, "--version"], capture_output=True, text=True)
+    except OSError:
+        return ""
+    return ran.stdout.strip().partition("\n")[0] if ran.returncode == 0 else ""
+
+
+def accepted(program: Path, order: Sequence[Transaction], is_strict: bool) -> str:
+    """Who accepts an order, which somebody must: `which mltx check accepts`. It is checked here too that the order keeps real
+    time, where it is strict."""
+    latest = -inf
+    for one in order:
+        if is_strict and one.end < latest:
+            raise Failed(f"the order that was found has {one.number} behind one that began after its end")
+        latest = max(latest, one.start)
+    told = version(program)
+    _check(program, order)
+    return f"which mltx check accepts{NOT_PROVED if 'not proved' in told else ''}"
+
+
+def _check(program: Path, order: Sequence[Transaction]) -> None:
+    """Has the program check the trace of an order, which it must accept, with the same order and base."""
+    ran = subprocess.run([program, "check", "--long", "-"], input=trace(order), capture_output=True, text=True)
+    wanted = "".join(f"serial {number}\n" for number in range(1, len(order) + 1)) + base(order)
+    if ran.returncode or ran.stdout != wanted:
+        raise Failed(f"mltx check does not accept the order that was found: {ran.stderr or 'another base'}")

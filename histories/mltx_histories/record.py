@@ -1,21 +1,22 @@
-"""Runs clients against a system, records what they are answered, and has the program check an order."""
-import random
-import subprocess
+"""Runs clients against a system, and records what they are answered."""
 import time
-from collections.abc import Callable, Iterable, Iterator, Sequence
+from collections import Counter
+from collections.abc import Iterable, Iterator, Sequence
 from concurrent.futures import ThreadPoolExecutor, wait
 from contextlib import ExitStack
+from dataclasses import dataclass
 from itertools import count
-from math import inf
 from pathlib import Path
 
-from .systems import Failed, Place, RolledBack, Session
-from .text import Transaction, base, trace
+from .faults import Faults, Given
+from .plan import IN_USE, Planned, planned
+from .systems import Address, Connect, Failed, Lost, Place, RolledBack, Session, named, patiently
+from .systems.base import START
 
-# How many accounts there are, elements of the set, counters, and what each account has at first.
-ACCOUNTS, ELEMENTS, COUNTERS, COINS = 8, 16, 4, 100
-# One of so many transactions is aborted by its client, and how long a step of a scenario is waited for.
-ABORTS, STEP = 10, 0.5
+# How long a step of a scenario is waited for, in seconds.
+STEP = 0.5
+# What the operations of a plan that write are answered, each of them always.
+WRITING = {"up": "done", "deposit": "done", "withdraw": "done", "add": "added", "write": "done", "append": "done"}
 
 
 def now() -> int:
@@ -26,92 +27,143 @@ def now() -> int:
 class Client:
     """A client that runs transactions step by step, and records them. The number is 0 where none is open."""
 
-    def __init__(self, name: int, session: Session, lines: list[str], numbers: Iterator[int]) -> None:
-        self.name, self.session, self.lines, self.numbers, self.number = name, session, lines, numbers, 0
+    def __init__(self, name: int, connect: Connect, lines: list[str], numbers: Iterator[int]) -> None:
+        self.name, self.connect, self.lines, self.numbers, self.number = name, connect, lines, numbers, 0
+        self.session: Session | None = connect()
 
     def step(self, line: str) -> None:
-        """Does `begin`, an operation, `commit` or `abort`. What follows a transaction that the system took back is left out."""
+        """Does `begin`, an operation, `commit` or `abort`. What follows a transaction that the system took back is left out.
+        If the connection ends, the transaction is aborted, or has no end if its commit was asked for."""
         if line == "begin":
+            session = self._connected()
             self.number = next(self.numbers)
             self.lines.append(f"begin {self.number} by {self.name} at {now()}")
-        if not self.number:
+        elif not self.number or not self.session:
             return
+        else:
+            session = self.session
         try:
-            order = self._do(line)
+            order = self._do(session, line)
         except RolledBack:
             line, order = "abort", None
+        except Lost:
+            self._lose(session, line)
+            line, order = ("" if line == "commit" else "abort"), None
         if line in ("commit", "abort"):
             self.lines.append(f"{line} {self.number}{'' if order is None else f' {order}'} at {now()}")
+        if line in ("commit", "abort", ""):
             self.number = 0
 
-    def _do(self, line: str) -> int | None:
+    def _do(self, session: Session, line: str) -> int | None:
         """The number of the commit, where it is one and the system tells it."""
         if line == "begin":
-            self.session.begin()
+            session.begin()
         elif line == "abort":
-            self.session.abort()
+            session.abort()
         elif line == "commit":
-            order = self.session.commit()
-            self.lines += [f"op {self.number} {asked} {reply}" for asked, reply in self.session.late]
+            order = session.commit()
+            self.lines += [f"op {self.number} {asked} {reply}" for asked, reply in session.late]
             return order
-        elif reply := self.session.ask(line):
+        elif reply := session.ask(line):
             self.lines.append(f"op {self.number} {line} {reply}")
         return None
 
-    def run(self, asked: Iterable[str], ending: str = "commit") -> None:
-        for line in ("begin", *asked, ending):
+    def _lose(self, session: Session, line: str) -> None:
+        """Drops the connection. Of a transaction that is sent with its commit it is known what it writes, if it has committed."""
+        if line == "commit":
+            asked = [it for it in getattr(session, "asked", []) if it.split()[0] in WRITING]
+            self.lines += [f"op {self.number} {it} {WRITING[it.split()[0]]}" for it in asked]
+        session.close()
+        self.session = None
+
+    def _connected(self) -> Session:
+        """The session, which is connected again if it was lost."""
+        if not self.session:
+            self.session = patiently(self.connect, START)
+        return self.session
+
+    def run(self, one: Planned) -> None:
+        for line in ("begin", *one.asked, one.ending):
             self.step(line)
 
+    def close(self) -> None:
+        if self.session:
+            self.session.close()
 
-def clients_of(connect: Callable[[], Session], names: Iterable[int], stack: ExitStack) -> tuple[list[Client], list[str]]:
+
+def clients_of(connect: Connect, names: Iterable[int], stack: ExitStack) -> tuple[list[Client], list[str]]:
     """Clients that are connected until the block ends, and the lines that they will record."""
     lines, numbers, clients = list[str](), count(1), list[Client]()
     for name in names:
-        session = connect()
-        stack.callback(session.close)
-        clients.append(Client(name, session, lines, numbers))
+        clients.append(Client(name, connect, lines, numbers))
+        stack.callback(clients[-1].close)
     return clients, lines
 
 
-def drawn(source: random.Random) -> list[str]:
-    """The operations of a transaction: a transfer, a booking, the sum of all accounts, a size, or a count."""
-    one, other = source.sample(range(ACCOUNTS), 2)
-    element, counter, coins = source.randrange(ELEMENTS), source.randrange(COUNTERS), source.randrange(1, 60)
-    return source.choice([
-        [f"balance {one}", f"withdraw {one} {coins}", f"deposit {other} {coins}"],
-        [f"has 1 {element}", f"{source.choice(('add', 'remove'))} 1 {element}", f"up {counter} 1"],
-        [f"balance {account}" for account in range(ACCOUNTS)],
-        ["size 1", f"read {counter}"],
-        [f"up {counter} {coins}", f"up {(counter + 1) % COUNTERS} 1"],
-    ])
+@dataclass(frozen=True)
+class Wanted:
+    """What is recorded: a system with its level and, if it runs already, its address, or the command of a program; what `read`
+    reads; how many clients run how many transactions on how many objects at a time; and how often the system is killed."""
+
+    system: str
+    level: str = ""
+    address: Address | None = None
+    command: str = ""
+    data: str = "objects"
+    clients: int = 8
+    transactions: int = 1000
+    in_use: int = IN_USE
+    seed: int = 1
+    kills: int = 0
+    killed: Given | None = None
+
+    def head(self) -> str:
+        """The comment at the head of the history."""
+        kind, level = named(self.system, self.level)
+        words = [f"# {kind}", *([f"level {level}"] if level else []), *([f"at {self.address}"] if self.address else []),
+                 self.data, f"{self.clients} clients", f"seed {self.seed}", *([f"{self.kills} kills"] if self.kills else [])]
+        return ", ".join(words)
 
 
-def recorded(system: str, program: Path, clients: int, transactions: int, seed: int) -> str:
-    """The history of so many clients that run so many transactions, of which a client before them fills the accounts."""
+def recorded(wanted: Wanted, program: Path) -> str:
+    """The history of clients that run the plan, of which a client before them runs the part that fills the system."""
+    before, drawn = planned(wanted.data, wanted.seed, wanted.transactions, wanted.in_use)
+    left, done = iter(drawn), count()
 
     def work(client: Client) -> None:
-        source = random.Random(f"{seed} {client.name}")
-        for _ in range(transactions // clients):
-            client.run(drawn(source), "commit" if source.randrange(ABORTS) else "abort")
+        for one in left:
+            client.run(one)
+            faults.progress = next(done) + 1
 
     with ExitStack() as stack:
         place = Place(program, stack)
-        if lacks := place.lacks(system):
+        if not wanted.address and (lacks := place.lacks(wanted.system)):
             raise Failed(lacks)
-        connect = stack.enter_context(place.emptied(system))
-        (first, *others), lines = clients_of(connect, range(clients + 1), stack)
-        first.run(line for it in range(ACCOUNTS) for line in (f"open {it}", f"deposit {it} {COINS}"))
-        with ThreadPoolExecutor(clients) as pool:
+        connect = stack.enter_context(
+            place.emptied(wanted.system, wanted.address, wanted.command, wanted.level, wanted.data))
+        (first, *others), lines = clients_of(connect, range(wanted.clients + 1), stack)
+        for one in before:
+            first.run(one)
+        own = place.servers.get(named(wanted.system, wanted.level)[0])
+        faults = stack.enter_context(Faults(wanted.kills, len(drawn), wanted.killed or own))
+        with ThreadPoolExecutor(wanted.clients) as pool:
             list(pool.map(work, others))
-    return "".join(line + "\n" for line in lines)
+    return "".join(line + "\n" for line in [wanted.head(), *lines])
 
 
-def acted(connect: Callable[[], Session], setup: Sequence[str], steps: Iterable[str]) -> str:
+def counted(history: str) -> str:
+    """How many transactions of a recorded history ended how."""
+    ends = Counter(line.partition(" ")[0] for line in history.splitlines())
+    unknown = ends["begin"] - ends["commit"] - ends["abort"]
+    return f"{ends['commit']} committed, {ends['abort']} rolled back, {unknown} with an end that is not known"
+
+
+def acted(connect: Connect, setup: Sequence[str], steps: Iterable[str]) -> str:
     """The history of a scenario, before which client 0 runs the setup. Each step has its client before it, and begins once the
     step before has ended, or waits for another client."""
     with ExitStack() as stack:
         clients, lines = clients_of(connect, range(3), stack)
-        clients[0].run(setup)
+        clients[0].run(Planned(setup))
         pools, asked = [stack.enter_context(ThreadPoolExecutor(1)) for _ in clients], []
         for name, _, line in (step.partition(" ") for step in steps):
             asked.append(pools[int(name)].submit(clients[int(name)].step, line))
@@ -119,20 +171,3 @@ def acted(connect: Callable[[], Session], setup: Sequence[str], steps: Iterable[
         for it in asked:
             it.result()
     return "".join(line + "\n" for line in lines)
-
-
-def check(program: Path, order: Sequence[Transaction], is_strict: bool) -> None:
-    """Has the program check the trace of an order, which it must accept, with the same order and base; and checks that the order
-    keeps real time, where it is strict."""
-    latest = -inf
-    for one in order:
-        if is_strict and one.end < latest:
-            raise Failed(f"the order that was found has {one.number} behind one that began after its end")
-        latest = max(latest, one.start)
-    try:
-        ran = subprocess.run([program, "check", "--long", "-"], input=trace(order), capture_output=True, text=True)
-    except OSError as fault:
-        raise Failed(f"the program can't be run: {fault}") from fault
-    wanted = "".join(f"serial {number}\n" for number in range(1, len(order) + 1)) + base(order)
-    if ran.returncode or ran.stdout != wanted:
-        raise Failed(f"mltx check does not accept the order that was found: {ran.stderr or 'another base'}")

@@ -7,7 +7,8 @@ from pathlib import Path
 from . import text
 from .order import find
 from .pictures.cli import picture_of_trace
-from .record import acted, check
+from .program import accepted
+from .record import acted
 from .systems import Failed, Place
 
 SECONDS = 20
@@ -61,7 +62,7 @@ def _shown(place: Place, system: str, scenario: Scenario, pictures: Path | None)
         history = acted(connect, scenario.setup, scenario.steps)
     outcome = find(text.read(history), False, SECONDS)
     if outcome.is_found:
-        check(place.program, outcome.order, False)
+        accepted(place.program, outcome.order, False)
         return ""
     if outcome.is_found is None:
         raise Failed(f"{system}, {scenario.name}: {outcome.told}")
