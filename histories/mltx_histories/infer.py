@@ -336,12 +336,12 @@ class Web:
 
     def _keep_time(self) -> None:
         """Who ended before another began comes before it: by a chain of the ends."""
-        ends = sorted((self.nodes[at].one.end, at) for at in self.counts if self.nodes[at].one.end < inf)
+        ends = sorted((node.one.end, at) for at, node in enumerate(self.nodes) if node.one.end < inf)
         chain: list[int] = []
         for _, at in ends:
             chain.append(self._middle("time", (), [at, *chain[-1:]]))
-        for at in self.counts:
-            before = bisect_left(ends, (self.nodes[at].one.start, -1))
+        for at, node in enumerate(self.nodes):
+            before = bisect_left(ends, (node.one.start, -1))
             if before:
                 self.links["time"][chain[before - 1]].append(at)
 

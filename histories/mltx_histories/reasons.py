@@ -17,7 +17,7 @@ class Hop(NamedTuple):
     told: str
 
 
-def cycle_in(web: Web, links: Links, kinds: Sequence[str], more: Mapping[tuple[int, int], str] | None = None) -> list[Hop]:
+def cycle_in(web: Web, links: Links, kinds: Sequence[str], more: Mapping[tuple[int, int], Hop] | None = None) -> list[Hop]:
     """A short cycle of a graph of these kinds of links and of some more links with reasons, if there is one."""
     whose = web.whose()[:len(links)]
     path = shortest(links, components(links), whose)
@@ -31,7 +31,7 @@ def cycle_in(web: Web, links: Links, kinds: Sequence[str], more: Mapping[tuple[i
     return hops
 
 
-def _hop(web: Web, kinds: Sequence[str], more: Mapping[tuple[int, int], str], first: int, middle: int, second: int) -> Hop:
+def _hop(web: Web, kinds: Sequence[str], more: Mapping[tuple[int, int], Hop], first: int, middle: int, second: int) -> Hop:
     one, other = (it if it < web.size else it - web.size for it in (first, second))
     if middle >= 0:
         kind, cell = web.between[middle]
@@ -41,7 +41,12 @@ def _hop(web: Web, kinds: Sequence[str], more: Mapping[tuple[int, int], str], fi
     for kind in fit:
         if other in web.links[kind].get(one, ()):
             return _told(web, kind, one, other, web.cells.get((kind, one, other), ()))
-    return Hop("must", one, other, (), more[one, other])
+    return more[first, second]
+
+
+def told_of(web: Web, hops: Sequence[Hop]) -> list[str]:
+    """A line for each link of a cycle."""
+    return [f"  {web.nodes[it.first].number} before {web.nodes[it.second].number}: {it.told}" for it in hops]
 
 
 def _told(web: Web, kind: str, one: int, other: int, cell: Cell) -> Hop:
