@@ -1,7 +1,6 @@
 """Histories: tools/histories finds the anomaly that was planted in a history, and tells the cycle worked out by hand; of clean
-histories it finds an order that the program's check accepts; and systems show the anomalies that docs/HISTORIES.md says."""
+histories it finds an order that the program's check accepts."""
 import random
-import re
 import subprocess
 import sys
 from collections import Counter
@@ -12,17 +11,14 @@ from pathlib import Path
 
 import harness
 import model
-from documents import blocks_of, commands_of
 from harness import ROOT, Program, Ran, each, expect, holds, lines, same, test
 
 sys.path.insert(0, str(ROOT / "histories"))
 from mltx_histories import text  # noqa: E402
 from mltx_histories.order import find  # noqa: E402
-from mltx_histories.record import check  # noqa: E402
-from mltx_histories.systems import SYSTEMS  # noqa: E402
+from mltx_histories.program import NOT_PROVED, accepted, version  # noqa: E402
 
-TOOL, PAGE = ROOT / "tools/histories", ROOT / "docs/HISTORIES.md"
-FOUND = "serializable: an order of {} transactions, which mltx check accepts"
+TOOL = ROOT / "tools/histories"
 CYCLE = "no order: a cycle of {} transactions"
 SECONDS = 60
 # The end of a transaction that is not known to have ended.
@@ -109,6 +105,12 @@ def order(mltx: Program, history: str, *options: str) -> Ran:
     return run("order", *options, "--program", mltx.path, "-", given=history)
 
 
+def found(mltx: Program, count: int) -> str:
+    """What is told of an order that the program accepts."""
+    unproved = NOT_PROVED if "not proved" in version(Path(mltx.path)) else ""
+    return f"serializable: an order of {count} transactions, which mltx check accepts{unproved}\n"
+
+
 @each(PLANTED, seconds=0.5)
 def planted(mltx: Program, case: tuple[str, str]) -> None:
     expect(order(mltx, lines(case[0])), status=1, out=lines(case[1]))
@@ -118,14 +120,14 @@ def planted(mltx: Program, case: tuple[str, str]) -> None:
 def history_in_real_time(mltx: Program) -> None:
     """A reply that was out of date has an order, but none that keeps real time."""
     expect(order(mltx, STALE, "--strict"), status=1, out=STALE_CYCLE)
-    expect(order(mltx, STALE), out=lines(FOUND.format(2)))
+    expect(order(mltx, STALE), out=found(mltx, 2))
 
 
 @test(seconds=2)
 def history_with_an_unknown_end(mltx: Program) -> None:
     """A transaction of which the end is not known may have committed: it is in the order where another one saw it."""
     for history, count in UNSURE.items():
-        expect(order(mltx, lines(history)), out=lines(FOUND.format(count)), what=history)
+        expect(order(mltx, lines(history)), out=found(mltx, count), what=history)
 
 
 @each(FAULTY, seconds=0.5)
@@ -190,7 +192,7 @@ def clean_histories(mltx: Program) -> None:
         made = made_up(source, 60, 3, 0, ["commit"] * 7 + ["abort"])
         outcome = find(text.read(written(made)), is_strict, SECONDS)
         holds(outcome.is_found, f"history {number}: {outcome.told}")
-        check(Path(mltx.path), outcome.order, is_strict)
+        accepted(Path(mltx.path), outcome.order, is_strict)
         for op in (op for one in made if one.ending == "commit" for op, _ in one.done):
             base.ask(op)
         told = mltx.accepted(text.trace(outcome.order))
@@ -217,51 +219,3 @@ def small_histories(_mltx: Program) -> None:
             same(find(text.read(written(made)), is_strict, SECONDS, tries).is_found, wanted, written(made))
         counts[wanted] += 1
     holds(min(counts.values()) > 20, f"both happen: {counts}")
-
-
-@each({f"history-of-{system}": system for system in ("mltx", "sqlite", "redis:watch", "redis:script")}, seconds=3)
-def recorded(mltx: Program, system: str) -> None:
-    """What is recorded of a system without anomalies has an order, in which nearly all that began stands."""
-    file = mltx.folder / "history.txt"
-    ran = run("record", "--clients", 4, "--transactions", 80, "--program", mltx.path, "-o", file, system)
-    if b"is not installed" in ran.err:
-        print(ran.err.decode().strip())
-        return
-    expect(ran)
-    history = text.read(file.read_text())
-    commits = sum(one.ending == "commit" for one in history)
-    same((len(history), commits > 20), (81, True), "the transactions")
-    expect(order(mltx, file.read_text(), "--strict"), out=lines(FOUND.format(commits)))
-
-
-@test(seconds=12)
-def systems_show_what_the_page_says(mltx: Program) -> None:
-    """The rows of the page are those of the report, with a picture of each anomaly. What is not installed is told."""
-    ran = run("report", "--pictures", mltx.folder / "pictures", "--program", mltx.path)
-    same((ran.status, ran.err), (0, b""), "the report")
-    rows = re.findall(r"(?m)^\| .*\|$", ran.out.decode())
-    left = re.findall(r"(?m)^(\S+) is left out: .*$", ran.out.decode())
-    print(*(f"{system} is left out" for system in left))
-    page = re.findall(r"(?m)^\| .*\|$", re.sub(r"\[(shown)\]\([^)]*\)", r"\1", PAGE.read_text().partition("## Results")[2]))
-    same(rows, [row for row in page if row.split()[1] not in left], "the rows")
-    same([row.split()[1] for row in page[1:]], list(SYSTEMS), "the systems")
-    shown = sum(row.count("shown") for row in rows)
-    drawn = sorted((mltx.folder / "pictures").glob("*.svg"))
-    same(len(drawn), shown, "the pictures")
-    for picture in drawn:
-        same(picture.read_bytes(), (ROOT / "docs/histories" / picture.name).read_bytes(), picture.name)
-
-
-@test(seconds=1)
-def histories_page_shows_what_is_written(mltx: Program) -> None:
-    """Each command of the page that reads a file of the page writes what it shows."""
-    count = 0
-    for paragraph, block in blocks_of(PAGE.read_text()):
-        if name := re.search(r"`([\w-]+\.\w+)`:$", paragraph):
-            mltx.file(name[1], block)
-        for words, wanted in commands_of(block):
-            if words[1] == "order":
-                ran = run(*words[1:-1], "--program", mltx.path, mltx.folder / words[-1])
-                same(ran.out.decode(), wanted, " ".join(words))
-                count += 1
-    same(count, 2, "the commands")

@@ -9,7 +9,7 @@ from .order import find
 from .pictures.cli import picture_of_trace
 from .program import accepted
 from .record import acted
-from .systems import Failed, Place
+from .systems import Failed, Place, Unknown
 
 SECONDS = 20
 
@@ -50,7 +50,11 @@ def report(systems: Iterable[str], program: Path, pictures: Path | None) -> str:
             if lacks := place.lacks(system):
                 told.append(f"{system} is left out: {lacks}")
                 continue
-            found = [_shown(place, system, scenario, pictures) for scenario in SCENARIOS]
+            try:
+                found = [_shown(place, system, scenario, pictures) for scenario in SCENARIOS]
+            except Unknown as fault:
+                told.append(f"{system} is left out: {fault}")
+                continue
             rows.append(f"| {system} | {' | '.join('shown' if it else 'none' for it in found)} |")
             told += [f"{system}, {name}: {it}" for name, it in zip(names, found) if it]
     return "".join(line + "\n" for line in [*rows, *([""] if told else []), *told])
