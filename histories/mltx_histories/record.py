@@ -71,7 +71,7 @@ class Client:
     def _lose(self, session: Session, line: str) -> None:
         """Drops the connection. Of a transaction that is sent with its commit it is known what it writes, if it has committed."""
         if line == "commit":
-            asked = [it for it in getattr(session, "asked", []) if it.split()[0] in WRITING]
+            asked = [it for it in session.sent if it.split()[0] in WRITING]
             self.lines += [f"op {self.number} {it} {WRITING[it.split()[0]]}" for it in asked]
         session.close()
         self.session = None

@@ -50,10 +50,11 @@ class Address:
 
 class Session(Protocol):
     """A connection of a client. `data` is what `read` reads: `objects`, `registers` or `lists`; `late` has the operations with
-    replies that were told at the commit alone."""
+    replies that were told at the commit alone, and `sent` those that go with a commit."""
 
     data: str = "objects"
     late: Sequence[tuple[str, str]] = ()
+    sent: Sequence[str] = ()
 
     def begin(self) -> None: ...
     def ask(self, asked: str) -> str: ...

@@ -36,7 +36,7 @@ class MySql(Sql):
         # What waits longer than a second gives way.
         self.query("SET SESSION innodb_lock_wait_timeout = 1")
 
-    def asked(self, statement: str) -> str:
+    def worded(self, statement: str) -> str:
         """It has other words for what is put in or changed."""
         head, found, change = statement.partition(" ON CONFLICT (id) DO UPDATE SET ")
         if not found:

@@ -141,12 +141,12 @@ class RedisScript(Redis):
     """A connection that sends a whole transaction as a script, at its commit."""
 
     def begin(self) -> None:
-        self.asked: list[str] = []
+        self.sent: list[str] = []
         self.late: Sequence[tuple[str, str]] = []
 
     def ask(self, asked: str) -> str:
-        self.asked.append(asked)
+        self.sent.append(asked)
         return ""
 
     def commit(self) -> None:
-        self.late = list(zip(self.asked, self.call("EVAL", SCRIPT, "0", self.data, *self.asked)))
+        self.late = list(zip(self.sent, self.call("EVAL", SCRIPT, "0", self.data, *self.sent)))

@@ -42,7 +42,7 @@ class Sql(Values, Protocol):
 
     def query(self, statement: str) -> str | None: ...
 
-    def asked(self, statement: str) -> str:
+    def worded(self, statement: str) -> str:
         """A statement as the system writes it."""
         return statement
 
@@ -54,7 +54,7 @@ class Sql(Values, Protocol):
 
     def store(self, cell: Cell, value: int) -> None:
         ways = STORE[str(cell[0])]
-        self.query(self.asked(ways[min(value, len(ways) - 1)].format(*cell[1:], value=value)))
+        self.query(self.worded(ways[min(value, len(ways) - 1)].format(*cell[1:], value=value)))
 
     def register(self, number: int) -> int | None:
         found = self._loaded(("register", number))
@@ -64,7 +64,7 @@ class Sql(Values, Protocol):
         return [int(word) for word in (self._loaded(("list", number)) or "").split()]
 
     def append(self, number: int, element: int) -> None:
-        self.query(self.asked(APPEND.format(number, element)))
+        self.query(self.worded(APPEND.format(number, element)))
 
     def clear(self) -> None:
         for name, columns in TABLES.items():
