@@ -158,14 +158,15 @@ def settled(transactions: Sequence[Transaction], kind: str = "counter") -> list[
     this kind. Raises `Faulty` where one name is of two kinds."""
     kinds: dict[str, str] = {}
     for verb, *names in {tuple(it.asked.split()) for one in transactions for it in one.done}:
-        found = {"write": "register", "append": "list", "up": "counter", "down": "counter"}.get(verb, "")
+        found = {"write": "register", "append": "list", "up": "counter", "down": "counter"}.get(verb)
         if found and kinds.setdefault(names[0], found) != found:
             raise Faulty(f"{names[0]} is both a {found} and a {kinds[names[0]]}")
 
     def of_kind(it: Done) -> Done:
-        verb, *names = it.asked.split()
-        listed = "list" if it.reply.startswith("is [") else kind
-        return replace(it, effect=effect(it.asked, it.reply, kinds.get(names[0], listed))) if verb == "read" else it
+        if not it.asked.startswith("read "):
+            return it
+        known = kinds.get(it.asked.split()[1]) or (str(it.effect.seen[0][0]) if it.effect.seen else kind)
+        return it if known == "counter" and not it.effect.seen else replace(it, effect=effect(it.asked, it.reply, known))
 
     return [replace(one, done=[of_kind(it) for it in one.done]) for one in transactions]
 

@@ -6,12 +6,14 @@ from functools import cache
 from math import inf
 from pathlib import Path
 
+from . import replay
 from .systems.base import Failed
 from .text import Transaction, base, trace
 
 # Where the clone is in which the package stands, if it stands in one.
 CLONE = Path(__file__).resolve().parents[2]
-NOT_PROVED = "; this mltx is not proved"
+# Who accepts an order.
+CHECKED, NOT_PROVED, REPLAYED = "which mltx check accepts", "; this mltx is not proved", "which a replay accepts"
 
 
 def found_program() -> Path:
@@ -32,16 +34,22 @@ def version(program: Path) -> str:
 
 
 def accepted(program: Path, order: Sequence[Transaction], is_strict: bool) -> str:
-    """Who accepts an order, which somebody must: `which mltx check accepts`. It is checked here too that the order keeps real
-    time, where it is strict."""
+    """Who accepts an order, which somebody must: the program, for what it knows, where it is there; else a replay. It is checked
+    here too that the order keeps real time, where it is strict."""
     latest = -inf
     for one in order:
         if is_strict and one.end < latest:
             raise Failed(f"the order that was found has {one.number} behind one that began after its end")
         latest = max(latest, one.start)
+    if replay.has_values(order):
+        replay.replay(order)
+        return f"{REPLAYED}, as mltx knows no registers and no lists"
     told = version(program)
+    if not told:
+        replay.replay(order)
+        return f"{REPLAYED}, as there is no mltx: give it by --mltx"
     _check(program, order)
-    return f"which mltx check accepts{NOT_PROVED if 'not proved' in told else ''}"
+    return CHECKED + NOT_PROVED * ("not proved" in told)
 
 
 def _check(program: Path, order: Sequence[Transaction]) -> None:

@@ -127,18 +127,24 @@ class Wanted:
 
 def recorded(wanted: Wanted, program: Path) -> str:
     """The history of clients that run the plan, of which a client before them runs the part that fills the system."""
-    before, drawn = planned(wanted.data, wanted.seed, wanted.transactions, wanted.in_use)
-    left, done = iter(drawn), count()
-
-    def work(client: Client) -> None:
-        for one in left:
-            client.run(one)
-            faults.progress = next(done) + 1
-
     with ExitStack() as stack:
         place = Place(program, stack)
         if not wanted.address and (lacks := place.lacks(wanted.system)):
             raise Failed(lacks)
+        return recorded_at(place, wanted)
+
+
+def recorded_at(place: Place, wanted: Wanted) -> str:
+    """The same, in a place where its servers may run already."""
+    before, drawn = planned(wanted.data, wanted.seed, wanted.transactions, wanted.in_use)
+    left, done = iter(drawn), count(1)
+
+    def work(client: Client) -> None:
+        for one in left:
+            client.run(one)
+            faults.progress = next(done)
+
+    with ExitStack() as stack:
         connect = stack.enter_context(
             place.emptied(wanted.system, wanted.address, wanted.command, wanted.level, wanted.data))
         (first, *others), lines = clients_of(connect, range(wanted.clients + 1), stack)
