@@ -5,11 +5,11 @@ import argparse
 import sys
 from pathlib import Path
 
-from . import text
+from . import judge
 from .faults import Given
-from .order import find
+from .model import Faulty
 from .plan import IN_USE, KINDS
-from .program import accepted, found_program
+from .program import found_program
 from .record import Wanted, counted, recorded
 from .report import report
 from .systems import LEVELS, OTHERS, SYSTEMS, Failed, address_of, named
@@ -34,32 +34,14 @@ def arguments() -> argparse.Namespace:
     record.add_argument("-o", dest="output", metavar="FILE", help="where it is written; else to standard output")
     told = f"{', '.join([*LEVELS, *OTHERS])}; a level may follow, as in redis:watch"
     record.add_argument("system", metavar="SYSTEM", help=told)
-    order = commands.add_parser("order", help="looks for an order that explains all replies")
-    order.add_argument("--strict", action="store_true", help="one that ended before another began stands before it")
-    order.add_argument("--seconds", type=float, default=60, help="for how long it looks")
-    order.add_argument("--trace", metavar="FILE", help="where the trace in that order is written")
-    order.add_argument("file", metavar="FILE", help="a history; `-` is standard input")
+    judging = judge.add_arguments(commands)
     table = commands.add_parser("report", help="runs small scenarios, and tells which anomalies they show")
     table.add_argument("--pictures", metavar="DIR", type=Path, help="where a picture of each anomaly is written")
     table.add_argument("systems", metavar="SYSTEM", nargs="*", help="all of them where none is given")
-    for command in (record, order, table):
+    for command in (record, *judging, table):
         told = "the program; else that of the clone, or `mltx` on the PATH"
         command.add_argument("--mltx", "--program", dest="program", type=Path, default=found_program(), help=told)
     return parser.parse_args()
-
-
-def ordered(given: argparse.Namespace) -> int:
-    """Looks for an order, has the program check it, and tells the outcome."""
-    data = sys.stdin.read() if given.file == "-" else Path(given.file).read_text()
-    outcome = find(text.read(data), given.strict, given.seconds)
-    if not outcome.is_found:
-        print(outcome.told)
-        return 2 if outcome.is_found is None else 1
-    told = accepted(given.program, outcome.order, given.strict)
-    if given.trace:
-        Path(given.trace).write_text(text.trace(outcome.order))
-    print(f"serializable: an order of {len(outcome.order)} transactions, {told}")
-    return 0
 
 
 def wanted(given: argparse.Namespace) -> Wanted:
@@ -81,15 +63,15 @@ def wanted(given: argparse.Namespace) -> Wanted:
 def main() -> int:
     given = arguments()
     try:
-        if given.command == "order":
-            return ordered(given)
         if given.command == "report":
             print(report(given.systems or SYSTEMS, given.program.resolve(), given.pictures), end="")
             return 0
-        history = recorded(wanted(given), given.program.resolve())
-        Path(given.output or "/dev/stdout").write_text(history)
-        print(f"mltx-histories: {counted(history)}", file=sys.stderr)
-        return 0
-    except (text.Faulty, Failed, OSError) as fault:
+        if given.command == "record":
+            history = recorded(wanted(given), given.program.resolve())
+            Path(given.output or "/dev/stdout").write_text(history)
+            print(f"mltx-histories: {counted(history)}", file=sys.stderr)
+            return 0
+        return judge.run(given)
+    except (Faulty, Failed, OSError) as fault:
         print(f"mltx-histories: {fault}", file=sys.stderr)
         return 2

@@ -211,11 +211,12 @@ def _own(it: dict[str, Value], at: int) -> Transaction:
     where, ending = f"transaction {at}", it.get("ending", "commit")
     if ending is not None and ending not in ENDINGS:
         raise Faulty(f"{where}: its ending is {ending}, and not commit, abort or unknown")
-    kept = ENDINGS[ending if isinstance(ending, str) else None]
+    kept, start = ENDINGS[ending if isinstance(ending, str) else None], _number(it.get("begin"), -inf)
+    end = _number(it.get("end"), inf)
     return Transaction(
-        int(_number(it.get("transaction"), at)), _number(it.get("begin"), -inf), _number(it.get("end"), inf) if kept else inf, kept,
-        _number(it.get("order"), inf), at, _operations(it.get("operations"), True, where),
-        re.sub(r"\s", "_", str(it.get("client", ""))), at)
+        int(_number(it.get("transaction"), at)), start, end if kept else inf, kept, _number(it.get("order"), inf),
+        end if end < inf or start > -inf else at, _operations(it.get("operations"), True, where), re.sub(r"\s", "_", str(it.get("client", ""))),
+        start if start > -inf else at)
 
 
 def as_json(transactions: Iterable[Transaction]) -> str:

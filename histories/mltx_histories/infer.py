@@ -113,6 +113,8 @@ class Web:
         self.unclear: dict[Cell, str] = {}
         self.reads: defaultdict[Cell, list[Read]] = defaultdict(list)
         self.strange: list[tuple[int, Fault]] = []
+        # By transaction and cell the values of which it is known what they saw, without the own part.
+        self.known: set[tuple[int, Cell, int]] = set()
         self.writers: defaultdict[Cell, list[int]] = defaultdict(list)
         for at, node in enumerate(self.nodes):
             for cell in (*(cell for cell, change in node.changes.items() if change), *node.left):
@@ -152,16 +154,32 @@ class Web:
             for need, own, done in node.needs:
                 if need.low == need.high:
                     wanted[need.cell].setdefault((at, need.low - own), (own, done))
+        sums = {cell: Amounts([(at, self.nodes[at].changes[cell]) for at in self.writers[cell]]) for cell in wanted}
         for cell, asked in wanted.items():
-            amounts = Amounts([(at, self.nodes[at].changes[cell]) for at in self.writers[cell]])
+            amounts = sums[cell]
             for (at, value), (own, done) in asked.items():
                 sets = amounts.sets_of(value, at)
                 if sets is None:
                     self.unclear.setdefault(cell, "amounts of which two sets have one sum")
                 elif sets:
                     self.reads[cell].append(Read(at, cell, done, sets[0]))
+                    self.known.add((at, cell, value))
+                    if cell[0] == "balance":
+                        self._look_for_half(self.reads[cell][-1], sums)
                 else:
                     self.strange.append((at, self._strange_sum(at, cell, value, own, done, amounts)))
+
+    def _look_for_half(self, read: Read, sums: dict[Cell, Amounts]) -> None:
+        """Who sees that another has opened or closed an account sees its balance too."""
+        node, cell = self.nodes[read.at], ("account", *read.cell[1:])
+        need, own = next((need, own) for need, own, done in node.needs if done is read.done and need.cell == cell)
+        sets = sums[cell].sets_of(need.low - own, read.at)
+        for it in sets[0] ^ read.seen if sets else ():
+            other = self.nodes[it]
+            if it in self.writers[cell] and it in self.writers[read.cell]:
+                step = other.step_on(cell if it in sets[0] else read.cell) if sets else ""
+                told = f"{read.done} of {node.number} sees {step} of {other.number}, which did more"
+                self.strange.append((read.at, Fault("G1b (intermediate read)", told, (node.number, other.number))))
 
     def _strange_sum(self, at: int, cell: Cell, value: int, own: int, done: Done, amounts: Amounts) -> Fault:
         """What is told of a sum that nothing leads to: what was seen may be aborted, or the part of a transaction."""

@@ -140,7 +140,7 @@ def done(asked: str, reply: str) -> Done:
 class Transaction:
     """A transaction with the times at which it began and ended. `ending` is "" where nothing tells how it ended, which may be by
     a commit; `order` is the number of its commit, where the system told one, and `line` the line of its end, `begun` that of
-    its beginning."""
+    its beginning, and `lines` those of its operations, where it is known."""
 
     number: int
     start: float = -inf
@@ -151,6 +151,7 @@ class Transaction:
     done: list[Done] = field(default_factory=list)
     client: str = ""
     begun: float = 0
+    lines: list[float] = field(default_factory=list)
 
 
 def settled(transactions: Sequence[Transaction], kind: str = "counter") -> list[Transaction]:

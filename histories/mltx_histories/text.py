@@ -50,6 +50,7 @@ def _take(found: dict[int, Transaction], parts: dict[str, str | None], line: int
         raise Faulty(f"transaction {number} is not open")
     if parts["asked"] and parts["reply"]:
         one.done.append(done(parts["asked"], parts["reply"]))
+        one.lines.append(line)
     else:
         one.ending, one.line = parts["ending"] or "", line
         one.order, one.end = float(parts["order"] or inf), float(parts["end"] or inf)
@@ -58,15 +59,16 @@ def _take(found: dict[int, Transaction], parts: dict[str, str | None], line: int
 
 
 def written(transactions: Sequence[Transaction]) -> str:
-    """The history of these transactions, by their times, and by the lines of a history that they stood in."""
-    told: list[tuple[float, float, int, str]] = []
+    """The history of these transactions, by the lines of the history in which they stood."""
+    told: list[tuple[float, int, str]] = []
     for at, one in enumerate(transactions):
         by, starts = f" by {one.client}" * bool(one.client), f" at {one.start:.0f}" * (one.start > -inf)
         ends, order = f" at {one.end:.0f}" * (one.end < inf), f" {one.order:.0f}" * (one.order < inf)
-        told.append((one.start, one.begun, at, f"begin {one.number}{by}{starts}\n"))
-        told += [(one.end, one.line, at, f"op {one.number} {it.asked} {it.reply}\n") for it in one.done]
-        told += [(one.end, one.line, at, f"{one.ending} {one.number}{order}{ends}\n")] if one.ending else []
-    return "".join(line for *_, line in sorted(told, key=lambda it: it[:3]))
+        told.append((one.begun, at, f"begin {one.number}{by}{starts}\n"))
+        lines = one.lines or [one.line] * len(one.done)
+        told += [(line, at, f"op {one.number} {it.asked} {it.reply}\n") for line, it in zip(lines, one.done)]
+        told += [(one.line, at, f"{one.ending} {one.number}{order}{ends}\n")] if one.ending else []
+    return "".join(line for *_, line in sorted(told, key=lambda it: it[:2]))
 
 
 def trace(transactions: Iterable[Transaction]) -> str:
