@@ -113,8 +113,8 @@ class Written:
                 lines.append(f"read {number}")
                 continue
             self.value += 1
-            # Half of the registers that are written are read before.
-            lines += [f"read {number}"] * (self.verb == "write" and self.source.random() < 0.5)
+            # A register is read before it is written, so that it is known what was overwritten.
+            lines += [f"read {number}"] * (self.verb == "write")
             lines.append(f"{self.verb} {number} {self.value}")
             self.pool.write(number)
         return lines
