@@ -393,5 +393,5 @@ class Web:
 
     @property
     def has_times(self) -> bool:
-        """Whether anything is known to have ended before another began."""
-        return any(it < len(self.nodes) for at, behind in self.links["time"].items() if at >= len(self.nodes) for it in behind)
+        """Whether it is known when transactions began and ended."""
+        return any(node.one.start > -inf or node.one.end < inf for node in self.nodes)

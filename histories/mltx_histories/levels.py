@@ -12,7 +12,7 @@ from collections.abc import Iterable, Sequence
 from dataclasses import dataclass, field
 from math import inf
 
-from .committed import is_committed
+from .committed import Placing
 from .cycles import sorted_out
 from .infer import Web
 from .model import Transaction
@@ -112,7 +112,11 @@ def judge(transactions: Iterable[Transaction], seconds: float) -> Judged:
     if judged.verdicts[SNAPSHOT] is None and parted:
         _snapshots(web, parted, judged, until)
     if judged.verdicts[COMMITTED] is None:
-        judged.verdicts[COMMITTED] = is_committed(web)
+        placing = Placing(web)
+        judged.verdicts[COMMITTED] = placing.run()
+        if judged.verdicts[COMMITTED] is False:
+            judged.anomalies = {}
+            judged.is_broken(COMMITTED, Anomaly("impossible read", placing.why, []))
     return judged
 
 
