@@ -1,7 +1,10 @@
 """Records of histories: what tools/histories records of each system has the order or the anomaly that its level allows, also of a
 system that runs already, is killed meanwhile, or is a program that answers lines; and docs/HISTORIES.md shows what is so."""
 import re
+import shlex
+import subprocess
 import sys
+import zipfile
 from collections import defaultdict
 from collections.abc import Iterator
 from contextlib import contextmanager
@@ -12,11 +15,12 @@ from harness import ROOT, Program, each, expect, holds, same, test
 from histories import found, order, run
 
 sys.path.insert(0, str(ROOT / "histories"))
-from mltx_histories import plan, text  # noqa: E402
-from mltx_histories.program import NOT_PROVED  # noqa: E402
+from mltx_histories import cli, plan, text  # noqa: E402
+from mltx_histories.program import CHECKED, NOT_PROVED, REPLAYED  # noqa: E402
 from mltx_histories.systems import SYSTEMS, servers  # noqa: E402
 
-PAGE, EXAMPLE = ROOT / "docs/HISTORIES.md", ROOT / "histories/examples/sqlite_lines.py"
+PAGE, ANOMALIES = ROOT / "docs/HISTORIES.md", ROOT / "docs/ANOMALIES.md"
+EXAMPLE = ROOT / "histories/examples/sqlite_lines.py"
 SMALL = ("--clients", 4, "--transactions", 80)
 # Those without anomalies, and one of the others of each kind.
 CLEAN = ("mltx", "sqlite", "redis:watch", "redis:script", "postgres:serializable", "mariadb:serializable")
@@ -116,6 +120,46 @@ def killed_system(mltx: Program) -> None:
         holds(int(re.findall(r"\d+", told)[0]) >= commits_of(history), "all committed ones are in the order")
 
 
+@each({f"client-of-{data}": data for data in ("registers", "lists")}, seconds=3)
+def values(mltx: Program, data: str) -> None:
+    """Registers and lists have an order, which a replay accepts."""
+    history = recorded_by(mltx, *SMALL, "--data", data, "sqlite")
+    told = found(mltx, commits_of(history)).replace(CHECKED, REPLAYED).replace(NOT_PROVED, "")
+    ran = order(mltx, history, "--strict")
+    same(ran.out.decode().partition(REPLAYED)[0], told.partition(REPLAYED)[0], "the order")
+
+
+@test(seconds=3)
+def program_that_answers_lines(mltx: Program) -> None:
+    """The example answers lines from registers of SQLite."""
+    command = shlex.join([sys.executable, str(EXAMPLE), str(mltx.folder / "registers.db")])
+    history = recorded_by(mltx, *SMALL, "--data", "registers", "--run", command, "lines")
+    holds(commits_of(history) > 20, f"{commits_of(history)} committed")
+    told = order(mltx, history, "--strict").out.decode()
+    holds(told.startswith(f"serializable: an order of {commits_of(history)} transactions, {REPLAYED}"), told)
+
+
+@test(seconds=2)
+def checker_that_is_not_there(mltx: Program) -> None:
+    """Without the program a replay accepts an order, and that is told."""
+    ran = run("order", "--mltx", mltx.folder / "nowhere", "-", given="begin 1\nop 1 up 7 1 done\ncommit 1\n")
+    expect(ran, out=f"serializable: an order of 1 transactions, {REPLAYED}, as there is no mltx: give it by --mltx\n")
+
+
+@each({
+    "system-that-is-unknown": (["oracle"], "there is no system oracle: choose one of "),
+    "level-that-is-unknown": (["--isolation", "eventual", "postgres"], "postgres has no level eventual: it has read-committed, "),
+    "lists-of-mltx": (["--data", "lists", "mltx"], "mltx has no lists\n"),
+    "address-of-nobody": (["--address", "127.0.0.1:1", "redis"], "nobody answers at 127.0.0.1:1: "),
+    "kill-without-restart": (["--kill", "1", "redis"], "--kill and --restart go together\n"),
+    "program-of-no-lines": (["lines"], "--run has the program of `lines`, and of nothing else\n"),
+}, seconds=0.5)
+def refused(mltx: Program, case: tuple[list[str], str]) -> None:
+    ran = run("record", "--mltx", mltx.path, *case[0])
+    same((ran.status, ran.out), (2, b""), "the record")
+    holds(ran.err.decode().startswith(f"mltx-histories: {case[1]}"), ran.err.decode())
+
+
 @test(seconds=12)
 def systems_show_what_the_page_says(mltx: Program) -> None:
     """The rows of the page are those of the report, with a picture of each anomaly. What is not installed is told."""
@@ -124,7 +168,8 @@ def systems_show_what_the_page_says(mltx: Program) -> None:
     rows = re.findall(r"(?m)^\| .*\|$", ran.out.decode())
     left = re.findall(r"(?m)^(\S+) is left out: .*$", ran.out.decode())
     print(*(f"{system} is left out" for system in left))
-    page = re.findall(r"(?m)^\| .*\|$", re.sub(r"\[(shown)\]\([^)]*\)", r"\1", PAGE.read_text().partition("## Results")[2]))
+    section = ANOMALIES.read_text().partition("## Four scenarios")[2].partition("\n## ")[0]
+    page = re.findall(r"(?m)^\| .*\|$", re.sub(r"\[(shown)\]\([^)]*\)", r"\1", section))
     same(rows, [row for row in page if row.split()[1] not in left], "the rows")
     same([row.split()[1] for row in page[1:]], list(SYSTEMS), "the systems")
     shown = sum(row.count("shown") for row in rows)
@@ -136,14 +181,37 @@ def systems_show_what_the_page_says(mltx: Program) -> None:
 
 @test(seconds=1)
 def histories_page_shows_what_is_written(mltx: Program) -> None:
-    """Each command of the page that reads a file of the page writes what it shows."""
-    count = 0
-    for paragraph, block in blocks_of(PAGE.read_text()):
+    """Each command of the page has the form that the tool wants, and each that reads a file of the page writes what it shows."""
+    count, page = 0, PAGE.read_text()
+    for words in (shlex.split(line)[1:] for line in re.findall(r"(?m)^    (?:\$ )?(mltx-histories .*)$", page)):
+        cli.arguments(words)
+    for paragraph, block in blocks_of(page):
         if name := re.search(r"`([\w-]+\.\w+)`:$", paragraph):
             mltx.file(name[1], block)
         for words, wanted in commands_of(block):
-            if words[1] == "order":
-                ran = run(*words[1:-1], "--program", mltx.path, mltx.folder / words[-1])
-                same(ran.out.decode().replace(NOT_PROVED, ""), wanted, " ".join(words))
-                count += 1
+            ran = run(*words[1:-1], "--mltx", mltx.path, mltx.folder / words[-1])
+            same(ran.out.decode().replace(NOT_PROVED, ""), wanted, " ".join(words))
+            count += 1
     same(count, 2, "the commands")
+    holds(len(page.split()) <= 900, f"the page has {len(page.split())} words")
+
+
+@test(seconds=1)
+def anomalies_page_shows_what_was_measured(_mltx: Program) -> None:
+    """ANOMALIES has the tables that histories/survey.py makes of histories/results."""
+    ran = subprocess.run([ROOT / "histories/survey.py", "page"], capture_output=True, text=True)
+    same((ran.returncode, ran.stdout), (0, ANOMALIES.read_text()), "the page")
+
+
+@test(seconds=2)
+def package_has_all_of_it(mltx: Program) -> None:
+    """The wheel has each module of the package with its styles, and both commands."""
+    words = [sys.executable, "-c", f"import build_wheel; print(build_wheel.build_wheel({str(mltx.folder)!r}))"]
+    ran = subprocess.run(words, cwd=ROOT / "histories", capture_output=True, text=True, check=True)
+    with zipfile.ZipFile(mltx.folder / ran.stdout.strip()) as wheel:
+        names = {name for name in wheel.namelist() if ".dist-info/" not in name}
+        started = wheel.read(next(name for name in wheel.namelist() if name.endswith("entry_points.txt"))).decode()
+    package = ROOT / "histories/mltx_histories"
+    kept = {path.relative_to(ROOT / "histories").as_posix() for path in package.rglob("*") if path.is_file()}
+    same(names, {name for name in kept if "__pycache__" not in name}, "the files")
+    same(re.findall(r"(?m)^(\S+) = ", started), ["mltx-histories", "mltx-picture"], "the commands")

@@ -4,6 +4,7 @@ import sys
 
 TABLE = "DROP TABLE IF EXISTS register; CREATE TABLE register (id INTEGER PRIMARY KEY, value INTEGER)"
 database = sqlite3.connect(sys.argv[1], isolation_level=None)
+database.execute("PRAGMA synchronous = OFF")
 
 
 def answer(verb: str, *numbers: str) -> str:

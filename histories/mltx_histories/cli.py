@@ -3,6 +3,7 @@
 docs/HISTORIES.md is the manual. The status is 1 where there is no order, and 2 where that is not decided or something fails."""
 import argparse
 import sys
+from collections.abc import Sequence
 from pathlib import Path
 
 from . import judge
@@ -15,7 +16,8 @@ from .report import report
 from .systems import LEVELS, OTHERS, SYSTEMS, Failed, address_of, named
 
 
-def arguments() -> argparse.Namespace:
+def arguments(words: Sequence[str] | None = None) -> argparse.Namespace:
+    """What the command line asks for."""
     parser = argparse.ArgumentParser("mltx-histories", description="Records histories of transaction systems, and verifies them.")
     commands = parser.add_subparsers(dest="command", required=True)
     record = commands.add_parser("record", help="runs clients against a system, and writes what they were answered")
@@ -41,7 +43,7 @@ def arguments() -> argparse.Namespace:
     for command in (record, *judging, table):
         told = "the program; else that of the clone, or `mltx` on the PATH"
         command.add_argument("--mltx", "--program", dest="program", type=Path, default=found_program(), help=told)
-    return parser.parse_args()
+    return parser.parse_args(words)
 
 
 def wanted(given: argparse.Namespace) -> Wanted:

@@ -3,7 +3,7 @@ import time
 from collections import Counter
 from collections.abc import Iterable, Iterator, Sequence
 from concurrent.futures import ThreadPoolExecutor, wait
-from contextlib import ExitStack
+from contextlib import ExitStack, closing
 from dataclasses import dataclass
 from itertools import count
 from pathlib import Path
@@ -127,11 +127,13 @@ class Wanted:
 
 def recorded(wanted: Wanted, program: Path) -> str:
     """The history of clients that run the plan, of which a client before them runs the part that fills the system."""
-    with ExitStack() as stack:
-        place = Place(program, stack)
+    stack = ExitStack()
+    place = Place(program, stack)
+    with closing(stack):
         if not wanted.address and (lacks := place.lacks(wanted.system)):
             raise Failed(lacks)
-        return recorded_at(place, wanted)
+        history = recorded_at(place, wanted)
+    return history
 
 
 def recorded_at(place: Place, wanted: Wanted) -> str:

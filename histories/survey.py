@@ -1,0 +1,184 @@
+#!/usr/bin/env python3
+"""Measures what docs/ANOMALIES.md shows, and puts it there.
+
+    histories/survey.py levels [--runs N] [--transactions N] [--data D] [--mltx PROGRAM] [SYSTEM ..]
+    histories/survey.py sizes [--mltx PROGRAM] [--most N]
+    histories/survey.py page [--write]
+
+`levels` records each system so often and counts which levels were broken by what; `sizes` records systems at several sizes. Both
+replace their rows in histories/results/*.csv. `page` makes the tables of the page from these files. Seconds are those of the
+processor that the judgement took, without the record."""
+import argparse
+import csv
+import os
+import re
+import statistics
+import sys
+import time
+from collections import Counter
+from collections.abc import Iterable, Sequence
+from contextlib import ExitStack
+from pathlib import Path
+
+sys.dont_write_bytecode = True
+HERE = Path(__file__).resolve().parent
+sys.path.insert(0, str(HERE))
+from mltx_histories import text  # noqa: E402
+from mltx_histories.levels import judge  # noqa: E402
+from mltx_histories.program import accepted, found_program  # noqa: E402
+from mltx_histories.record import Wanted, recorded_at  # noqa: E402
+from mltx_histories.systems import SYSTEMS, Failed, Place, servers  # noqa: E402
+
+PAGE, RESULTS = HERE.parent / "docs/ANOMALIES.md", HERE / "results"
+LEVELS = ("read committed", "snapshot isolation", "serializable", "strict serializable")
+SECONDS = 60
+SIZES, SIZED = (100, 1_000, 10_000, 100_000), ("mltx", "redis:script", "redis:multi")
+Row = dict[str, str]
+
+
+def rows_of(name: str) -> list[Row]:
+    path = RESULTS / f"{name}.csv"
+    return list(csv.DictReader(path.read_text().splitlines())) if path.exists() else []
+
+
+def put(name: str, row: Row, keys: Iterable[str]) -> None:
+    """Replaces the row with the same keys."""
+    RESULTS.mkdir(exist_ok=True)
+    kept = [it for it in rows_of(name) if any(it[key] != row[key] for key in keys)]
+    with open(RESULTS / f"{name}.csv", "w", newline="") as file:
+        writer = csv.DictWriter(file, list(row), lineterminator="\n")
+        writer.writeheader()
+        writer.writerows([*kept, row])
+    print(row, flush=True)
+
+
+def kept(place: Place, given: argparse.Namespace, wanted: Wanted) -> str:
+    """The history of a run, which is recorded where it is not kept."""
+    if not given.histories:
+        return recorded_at(place, wanted)
+    name = f"{wanted.system.replace(':', '-')}-{wanted.data}-{wanted.transactions}-{wanted.seed}.txt"
+    path: Path = given.histories / name
+    if not path.exists():
+        given.histories.mkdir(exist_ok=True)
+        path.write_text(recorded_at(place, wanted))
+    return path.read_text()
+
+
+def levels(given: argparse.Namespace) -> None:
+    for system in given.systems or SYSTEMS:
+        with ExitStack() as stack:
+            place = Place(given.program, stack)
+            if lacks := place.lacks(system):
+                print(f"{system} is left out: {lacks}")
+                continue
+            broken, named, undecided, seconds, commits = Counter[str](), Counter[str](), 0, list[float](), list[int]()
+            for run in range(given.runs):
+                history = kept(place, given, Wanted(system, data=given.data, transactions=given.transactions, seed=run + 1))
+                began = time.process_time()
+                judged = judge(text.read(history), SECONDS)
+                seconds.append(time.process_time() - began)
+                broken.update(level for level, verdict in judged.verdicts.items() if verdict is False)
+                named.update({anomaly.name for anomaly in judged.anomalies.values()})
+                undecided += None in judged.verdicts.values()
+                commits.append(len(re.findall(r"(?m)^commit ", history)))
+            told = "; ".join(f"{name} {count}" for name, count in named.most_common())
+            put("levels", {
+                "system": system, "version": servers.version(system.partition(":")[0], given.program), "data": given.data,
+                "transactions": str(given.transactions), "runs": str(given.runs),
+                "committed": f"{statistics.median(commits):.0f}", **{level: str(broken[level]) for level in LEVELS},
+                "not decided": str(undecided), "anomalies": told, "seconds": f"{statistics.median(seconds):.2f}",
+            }, ("system", "data"))
+
+
+def sizes(given: argparse.Namespace) -> None:
+    for system in SIZED:
+        for size in (it for it in SIZES if it <= given.most):
+            with ExitStack() as stack:
+                place, times = Place(given.program, stack), [time.process_time()]
+                history = kept(place, given, Wanted(system, transactions=size))
+                times.append(time.process_time())
+                judged = judge(text.read(history), 10 * SECONDS)
+                times.append(time.process_time())
+                children = sum(time_of_children())
+                if judged.order:
+                    accepted(given.program, judged.order, False)
+                checked = sum(time_of_children()) - children
+                verdict = next((level for level in reversed(LEVELS) if judged.verdicts[level]), "none")
+            put("sizes", {
+                "system": system, "transactions": str(size), "holds": verdict,
+                "not decided": str(sum(it is None for it in judged.verdicts.values())),
+                "record seconds": f"{times[1] - times[0]:.1f}", "judge seconds": f"{times[2] - times[1]:.1f}",
+                "check seconds": f"{checked:.1f}" if judged.order else "",
+            }, ("system", "transactions"))
+
+
+def time_of_children() -> tuple[float, float]:
+    """The seconds of the processor of programs that were run and have ended."""
+    told = os.times()
+    return told.children_user, told.children_system
+
+
+def table(columns: Sequence[str], rows: Iterable[Sequence[str]]) -> str:
+    lines = [columns, ["---"] * len(columns), *rows]
+    return "".join(f"| {' | '.join(cells)} |\n" for cells in lines).replace("| --- |", "|---|").replace(" --- |", "---|")
+
+
+def of_levels(row: Row) -> Sequence[str]:
+    """A row of the first table: how often each level was broken, and by what."""
+    broken = [row[level] if row[level] != "0" else "-" for level in LEVELS]
+    name = row["system"] + (f", {row['data']}" if row["data"] != "objects" else "")
+    return [name, *broken, row["not decided"] if row["not decided"] != "0" else "-", row["anomalies"] or "-", row["seconds"]]
+
+
+def of_sizes(row: Row) -> Sequence[str]:
+    size = f"{int(row['transactions']):,}"
+    return [row["system"], size, row["holds"], row["record seconds"], row["judge seconds"], row["check seconds"] or "-"]
+
+
+def filled(text_of_page: str) -> str:
+    """The page with what was measured, each table below its heading, and the versions."""
+    order = {system: at for at, system in enumerate(SYSTEMS)}
+    told = sorted(rows_of("levels"), key=lambda row: (row["data"] != "objects", row["data"], order[row["system"]]))
+    first = table(["system", *LEVELS, "not decided", "anomalies", "seconds"], map(of_levels, told))
+    sized = sorted(rows_of("sizes"), key=lambda row: (SIZED.index(row["system"]), int(row["transactions"])))
+    second = table(["system", "transactions", "strongest level", "record", "judge", "check"], map(of_sizes, sized))
+    for heading, made in (("A hundred runs", first), ("Sizes", second)):
+        pattern = rf"(?m)(^## {heading}\n\n(?:[^|#\n].*\n)+\n)(?:\|.*\n)*\n?"
+        before, text_of_page = text_of_page, re.sub(pattern, rf"\g<1>{made}\n", text_of_page)
+        if before == text_of_page and made not in before:
+            raise Failed(f"the page has no table of {heading}")
+    versions = ", ".join(dict.fromkeys(row["version"] for row in told))
+    return re.sub(r"(?m)^Versions: .*$", f"Versions: {versions}.", text_of_page)
+
+
+def page(given: argparse.Namespace) -> None:
+    made = filled(PAGE.read_text())
+    if given.write:
+        PAGE.write_text(made)
+    else:
+        print(made, end="")
+
+
+def main() -> None:
+    parser = argparse.ArgumentParser("histories/survey.py", description=(__doc__ or "").splitlines()[0])
+    commands = parser.add_subparsers(dest="command", required=True)
+    runs = commands.add_parser("levels", help="records each system so often, and counts what breaks which level")
+    runs.add_argument("--runs", type=int, default=100)
+    runs.add_argument("--transactions", type=int, default=200)
+    runs.add_argument("--data", default="objects")
+    runs.add_argument("systems", metavar="SYSTEM", nargs="*")
+    sized = commands.add_parser("sizes", help="judges histories of several sizes")
+    sized.add_argument("--most", type=int, default=SIZES[-1])
+    for command in (runs, sized):
+        command.add_argument("--histories", metavar="DIR", type=Path, help="where histories are kept, and not recorded anew")
+        command.add_argument("--mltx", dest="program", type=Path, default=found_program())
+    commands.add_parser("page", help="prints the page with what was measured").add_argument("--write", action="store_true")
+    given = parser.parse_args()
+    try:
+        {"levels": levels, "sizes": sizes, "page": page}[given.command](given)
+    except (Failed, OSError) as fault:
+        sys.exit(f"histories/survey.py: {fault}")
+
+
+if __name__ == "__main__":
+    main()
