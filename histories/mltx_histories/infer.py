@@ -394,4 +394,4 @@ class Web:
     @property
     def has_times(self) -> bool:
         """Whether it is known when transactions began and ended."""
-        return any(node.one.start > -inf or node.one.end < inf for node in self.nodes)
+        return any(node.one.start > -inf or node.one.end < inf for node in [*self.nodes, *self.lost])

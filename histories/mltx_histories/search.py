@@ -5,7 +5,7 @@ twice."""
 import heapq
 import time
 from bisect import bisect_left, insort
-from collections import defaultdict
+from collections import Counter, defaultdict
 from collections.abc import Iterator, Sequence
 from itertools import chain
 from math import inf
@@ -92,6 +92,10 @@ class Search:
         self.mark, self.place = 0, {step.at: at for at, step in enumerate(steps)}
         # The longest order that was found.
         self.order: list[int] = []
+        # By register and value how many steps that are not placed have to read it, and how many may write it.
+        self.readers, self.sources = Counter[tuple[Cell, Seen]](), Counter[tuple[Cell, Seen]]()
+        for step in steps:
+            self._count(step, 1)
         self.waits = [0] * len(links)
         for other in chain.from_iterable(links):
             self.waits[other] += 1
@@ -145,13 +149,28 @@ class Search:
             yield self.ready[at]
             at += 1
 
+    def _count(self, step: Step, times: int) -> None:
+        for pair in step.views.items() if step.is_wanted else ():
+            self.readers[pair] += times
+        for pair in step.left.items():
+            self.sources[pair] += times
+
+    def _buries(self, step: Step) -> bool:
+        """Whether it overwrites what another one has still to read, and nobody writes again."""
+        for cell in step.left if self.readers else ():
+            now = (cell, self.kept.get(cell))
+            if cell[0] == "register" and self.readers[now] > (step.views.get(cell, 0) == now[1]) and not self.sources[now]:
+                return True
+        return False
+
     def _may_run(self, step: Step) -> bool:
-        return (not step.is_broken
+        return (not step.is_broken and not self._buries(step)
                 and all(need.low <= (self.values[need.cell] + own) % BIG <= need.high for need, own in step.needs)
                 and all((self.kept.get(cell) or (None if cell[0] == "register" else ())) == seen for cell, seen in step.views.items()))
 
     def _put(self, at: int) -> None:
         step, before = self.steps[at], list[tuple[Cell, Seen]]()
+        self._count(step, -1)
         del self.ready[bisect_left(self.ready, at)]
         for cell, change in step.changes.items():
             self.values[cell] += change
@@ -170,6 +189,7 @@ class Search:
         for cell, change in step.changes.items():
             self.values[cell] -= change
         insort(self.ready, at)
+        self._count(step, 1)
 
     def _keep(self, cell: Cell, value: Seen) -> None:
         for it in (self.kept.get(cell), value):
