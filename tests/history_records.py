@@ -1,13 +1,17 @@
 """Records of histories: what tools/histories records of each system has the order or the anomaly that its level allows, also of a
 system that runs already, is killed meanwhile, or is a program that answers lines; and docs/HISTORIES.md shows what is so."""
+import os
 import re
 import shlex
+import signal
 import subprocess
 import sys
+import time
 import zipfile
 from collections import defaultdict
 from collections.abc import Iterator
 from contextlib import contextmanager
+from dataclasses import replace
 from pathlib import Path
 
 from documents import blocks_of, commands_of
@@ -17,7 +21,8 @@ from histories import found, order, run
 sys.path.insert(0, str(ROOT / "histories"))
 from mltx_histories import cli, plan, text  # noqa: E402
 from mltx_histories.program import CHECKED, NOT_PROVED, REPLAYED  # noqa: E402
-from mltx_histories.systems import SYSTEMS, servers  # noqa: E402
+from mltx_histories.systems import SYSTEMS, Address, Connect, Failed, address_of, mysql, postgres, redis, servers  # noqa: E402
+from mltx_histories.systems.base import START, patiently  # noqa: E402
 
 PAGE, ANOMALIES = ROOT / "docs/HISTORIES.md", ROOT / "docs/ANOMALIES.md"
 EXAMPLE = ROOT / "histories/examples/sqlite_lines.py"
@@ -108,6 +113,102 @@ def running_system(mltx: Program, kind: str) -> None:
         with running(mltx, kind) as address:
             history = recorded_by(mltx, *SMALL, "--address", address.replace("redis://@", "").removesuffix("/"), kind)
             expect(order(mltx, history, "--strict"), out=found(mltx, commits_of(history)))
+
+
+@test(seconds=4)
+def password_of_postgres(mltx: Program) -> None:
+    """Each way in which PostgreSQL asks for a password is answered, and a wrong one is told."""
+    if is_there("postgres", mltx.folder):
+        with servers.running("postgres", Path(mltx.path), mltx.folder) as server:
+            session = patiently(lambda: postgres.Postgres(server.address, "serializable"), START)
+            for way, user in (("scram-sha-256", "sue"), ("md5", "old"), ("password", "plain")):
+                session.query(f"SET password_encryption = '{'md5' if way == 'md5' else 'scram-sha-256'}'")
+                session.query(f"CREATE USER {user} PASSWORD 'a:{user}'")
+                with open(mltx.folder / "postgres/data/pg_hba.conf", "r+") as rules:
+                    before = rules.read()
+                    rules.seek(0)
+                    rules.write(f"host all {user} 127.0.0.1/32 {way}\n{before}")
+            session.query("SELECT pg_reload_conf()")
+            until_asked(lambda: postgres.Postgres(replace(server.address, user="plain", database="postgres"), "serializable"))
+            for user in ("sue", "old", "plain"):
+                url = f"postgres://{user}:a%3A{user}@{server.address}/postgres"
+                same(postgres.Postgres(address_of("postgres", url), "serializable").query("SELECT current_user"), user, "the user")
+                with raised(Failed, f'password authentication failed for user "{user}"'):
+                    postgres.Postgres(address_of("postgres", url.replace("%3A", "")), "serializable")
+            path = Address(path=f"{mltx.folder}/postgres/.s.PGSQL.{server.address.port}")
+            same(postgres.Postgres(path, "serializable").query("SHOW transaction_isolation"), "serializable", "by its socket")
+
+
+@test(seconds=4)
+def password_of_mariadb(mltx: Program) -> None:
+    if is_there("mariadb", mltx.folder):
+        with servers.running("mariadb", Path(mltx.path), mltx.folder) as server:
+            session = patiently(lambda: mysql.MySql(server.address, "serializable"), START)
+            session.query("CREATE USER sue@'127.0.0.1' IDENTIFIED BY 'a:b'")
+            url = f"mysql://sue:a%3Ab@{server.address}"
+            asked = mysql.MySql(address_of("mariadb", url), "repeatable-read")
+            same(asked.query("SELECT current_user()"), "sue@127.0.0.1", "the user")
+            same((asked.query("SELECT REPEAT('ab', 40000)"), asked.query("SELECT NULL")), ("ab" * 40000, None), "values")
+            with raised(Failed, "Access denied"):
+                mysql.MySql(address_of("mariadb", url.replace("%3A", "")), "serializable")
+            path = Address(path=str(mltx.folder / "mariadb/socket"), user="root")
+            same(mysql.MySql(path, "serializable").query("SELECT @@tx_isolation"), "SERIALIZABLE", "by its socket")
+
+
+@contextmanager
+def raised(kind: type[Exception], why: str) -> Iterator[None]:
+    """The block fails in this way."""
+    try:
+        yield
+    except kind as fault:
+        holds(why in str(fault), f"{why} is not in {fault}")
+    else:
+        raise AssertionError(f"nothing was raised: {why}")
+
+
+def until_asked(connect: Connect) -> None:
+    """Waits until a password is wanted."""
+    until = time.monotonic() + START
+    while time.monotonic() < until:
+        try:
+            connect().close()
+        except Failed:
+            return
+        time.sleep(0.01)
+
+
+@test(seconds=4)
+def keys_of_others_stay(mltx: Program) -> None:
+    """A recording of a Redis with a password deletes its own keys alone."""
+    if is_there("redis", mltx.folder):
+        with servers.running("redis", Path(mltx.path), mltx.folder) as server:
+            session = redis.Redis(server.address, "multi")
+            session.call("MSET", "mine", "1", "mltx:counter:99999", "5")
+            session.call("CONFIG", "SET", "requirepass", "a:b")
+            recorded_by(mltx, *SMALL, "--address", f"redis://:a%3Ab@{server.address}", "redis")
+            same(session.call("MGET", "mine", "mltx:counter:99999"), ["1", None], "the keys")
+
+
+@test(seconds=4)
+def given_process_is_killed(mltx: Program) -> None:
+    """A Redis that somebody else has started is killed by its number, and started again by a command."""
+    if is_there("redis", mltx.folder):
+        port, pid = servers.free_port(), mltx.folder / "pid"
+        words = ["redis-server", "--bind", "127.0.0.1", "--port", port, "--dir", mltx.folder, "--appendonly", "yes", "--pidfile", pid]
+        command = shlex.join(map(str, words))
+        process = subprocess.Popen(shlex.split(command), stdout=subprocess.DEVNULL)
+        try:
+            patiently(lambda: redis.Redis(Address(port=port), "watch"), START).close()
+            kill = ("--kills", 2, "--kill", pid, "--restart", command)
+            history = recorded_by(mltx, *SMALL, "--address", f":{port}", *kill, "redis:watch")
+            same(process.wait(START), -signal.SIGKILL, "how it ended")
+            told = order(mltx, history, "--strict").out.decode()
+            holds(told.startswith("serializable: an order of "), f"after kills: {told}")
+        finally:
+            process.kill()
+            process.wait()
+            if pid.exists() and int(pid.read_text()) != process.pid:
+                os.kill(int(pid.read_text()), signal.SIGKILL)
 
 
 @test(seconds=4)

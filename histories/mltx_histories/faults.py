@@ -37,16 +37,25 @@ class Given:
             raise Failed(f"process {number} can't be killed: {fault}") from fault
         if self.child and self.child.pid == number:
             self.child.wait()
-        while Path(f"/proc/{number}/stat").exists() and " Z " not in Path(f"/proc/{number}/stat").read_text():
+        while _runs(number):
             time.sleep(LOOK)
         nothing = subprocess.DEVNULL
-        self.child = subprocess.Popen(shlex.split(self.command), stdin=nothing, stdout=nothing, start_new_session=True)
+        words = shlex.split(self.command)
+        self.child = subprocess.Popen(words, stdin=nothing, stdout=nothing, stderr=nothing, start_new_session=True)
         self.number = self.child.pid
 
 
+def _runs(number: int) -> bool:
+    """Whether a process has not ended. One that nobody has waited for yet has."""
+    try:
+        return " Z " not in Path(f"/proc/{number}/stat").read_text()
+    except OSError:
+        return False
+
+
 class Faults:
-    """So many kills, each after the same part of all transactions, as long as the block lasts. A fault of a restart is raised at its
-    end."""
+    """So many kills, each after the same part of all transactions, as long as the block lasts. A fault of a restart is raised at
+    its end."""
 
     def __init__(self, kills: int, total: int, killed: Killable | None) -> None:
         self.marks = [total * at // (kills + 1) for at in range(1, kills + 1)]

@@ -88,6 +88,7 @@ class MySql(Sql):
     def _fault(self, told: bytes) -> Exception:
         """The error that the server answers. What takes only the statement back is followed by a rollback."""
         number, words = int.from_bytes(told[1:3], "little"), told[3:].decode(errors="replace")
+        words = words[6:] if words.startswith("#") else words
         if number in ENDING:
             return Lost(words)
         if number in TAKEN_BACK:
