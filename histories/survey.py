@@ -94,11 +94,10 @@ def sizes(given: argparse.Namespace) -> None:
     for system in SIZED:
         for size in (it for it in SIZES if it <= given.most):
             with ExitStack() as stack:
-                place, times = Place(given.program, stack), [time.process_time()]
-                history = kept(place, given, Wanted(system, transactions=size))
-                times.append(time.process_time())
+                history = kept(Place(given.program, stack), given, Wanted(system, transactions=size))
+                began = time.process_time()
                 judged = judge(text.read(history), 10 * SECONDS)
-                times.append(time.process_time())
+                seconds = time.process_time() - began
                 children = sum(time_of_children())
                 if judged.order:
                     accepted(given.program, judged.order, False)
@@ -107,8 +106,7 @@ def sizes(given: argparse.Namespace) -> None:
             put("sizes", {
                 "system": system, "transactions": str(size), "holds": verdict,
                 "not decided": str(sum(it is None for it in judged.verdicts.values())),
-                "record seconds": f"{times[1] - times[0]:.1f}", "judge seconds": f"{times[2] - times[1]:.1f}",
-                "check seconds": f"{checked:.1f}" if judged.order else "",
+                "judge seconds": f"{seconds:.1f}", "check seconds": f"{checked:.2f}" if judged.order else "",
             }, ("system", "transactions"))
 
 
@@ -132,7 +130,7 @@ def of_levels(row: Row) -> Sequence[str]:
 
 def of_sizes(row: Row) -> Sequence[str]:
     size = f"{int(row['transactions']):,}"
-    return [row["system"], size, row["holds"], row["record seconds"], row["judge seconds"], row["check seconds"] or "-"]
+    return [row["system"], size, row["holds"], row["judge seconds"], row["check seconds"] or "-"]
 
 
 def filled(text_of_page: str) -> str:
@@ -141,7 +139,7 @@ def filled(text_of_page: str) -> str:
     told = sorted(rows_of("levels"), key=lambda row: (row["data"] != "objects", row["data"], order[row["system"]]))
     first = table(["system", *LEVELS, "not decided", "anomalies", "seconds"], map(of_levels, told))
     sized = sorted(rows_of("sizes"), key=lambda row: (SIZED.index(row["system"]), int(row["transactions"])))
-    second = table(["system", "transactions", "strongest level", "record", "judge", "check"], map(of_sizes, sized))
+    second = table(["system", "transactions", "strongest level", "judge", "check"], map(of_sizes, sized))
     for heading, made in (("A hundred runs", first), ("Sizes", second)):
         pattern = rf"(?m)(^## {heading}\n\n(?:[^|#\n].*\n)+\n)(?:\|.*\n)*\n?"
         before, text_of_page = text_of_page, re.sub(pattern, rf"\g<1>{made}\n", text_of_page)

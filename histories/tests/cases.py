@@ -1,13 +1,13 @@
 """Cases of random tests: hypothesis draws them where it is installed, and else they are the first numbers."""
+import importlib
 from collections.abc import Callable
 from functools import partial
+from typing import Any
 
 try:
-    from hypothesis import given, settings, strategies
-
-    HAS_HYPOTHESIS = True
+    hypothesis: Any = importlib.import_module("hypothesis")
 except ImportError:
-    HAS_HYPOTHESIS = False
+    hypothesis = None
 
 OfSeed = Callable[[int], None]
 
@@ -16,9 +16,9 @@ def cases(count: int) -> Callable[[OfSeed], Callable[[], None]]:
     """Makes a test without arguments of one that takes a seed."""
 
     def made(test: OfSeed) -> Callable[[], None]:
-        if HAS_HYPOTHESIS:
-            of_case = given(strategies.integers(0, 2**32))(test)
-            drawn: Callable[[], None] = settings(max_examples=count, deadline=None, database=None)(of_case)
+        if hypothesis:
+            of_case = hypothesis.given(hypothesis.strategies.integers(0, 2**32))(test)
+            drawn: Callable[[], None] = hypothesis.settings(max_examples=count, deadline=None, database=None)(of_case)
             return drawn
         return _named(test, partial(_each, test, count))
 
