@@ -1,7 +1,7 @@
 #!/usr/bin/env python3
 """Measures what docs/ANOMALIES.md shows, and puts it there.
 
-    histories/survey.py levels [--runs N] [--transactions N] [--data D] [--mltx PROGRAM] [SYSTEM ..]
+    histories/survey.py levels [--runs N] [--transactions N] [--data D] [--kills N] [--mltx PROGRAM] [SYSTEM ..]
     histories/survey.py sizes [--mltx PROGRAM] [--most N]
     histories/survey.py page [--write]
 
@@ -33,6 +33,8 @@ PAGE, RESULTS = HERE.parent / "docs/ANOMALIES.md", HERE / "results"
 LEVELS = ("read committed", "snapshot isolation", "serializable", "strict serializable")
 SECONDS = 60
 SIZES, SIZED = (100, 1_000, 10_000, 100_000), ("mltx", "redis:script", "redis:multi")
+# The headings of tables of levels: of which data, and whether servers were killed.
+RUNS = (("A hundred runs", "objects", False), ("Lists", "lists", False), ("Killed servers", "objects", True))
 Row = dict[str, str]
 
 
@@ -56,7 +58,8 @@ def kept(place: Place, given: argparse.Namespace, wanted: Wanted) -> str:
     """The history of a run, which is recorded where it is not kept."""
     if not given.histories:
         return recorded_at(place, wanted)
-    name = f"{wanted.system.replace(':', '-')}-{wanted.data}-{wanted.transactions}-{wanted.seed}.txt"
+    killed = f"-{wanted.kills}-kills" if wanted.kills else ""
+    name = f"{wanted.system.replace(':', '-')}-{wanted.data}-{wanted.transactions}{killed}-{wanted.seed}.txt"
     path: Path = given.histories / name
     if not path.exists():
         given.histories.mkdir(exist_ok=True)
@@ -73,7 +76,8 @@ def levels(given: argparse.Namespace) -> None:
                 continue
             broken, named, undecided, seconds, commits = Counter[str](), Counter[str](), 0, list[float](), list[int]()
             for run in range(given.runs):
-                history = kept(place, given, Wanted(system, data=given.data, transactions=given.transactions, seed=run + 1))
+                wanted = Wanted(system, data=given.data, transactions=given.transactions, seed=run + 1, kills=given.kills)
+                history = kept(place, given, wanted)
                 began = time.process_time()
                 judged = judge(text.read(history), SECONDS)
                 seconds.append(time.process_time() - began)
@@ -84,10 +88,10 @@ def levels(given: argparse.Namespace) -> None:
             told = "; ".join(f"{name} {count}" for name, count in named.most_common())
             put("levels", {
                 "system": system, "version": servers.version(system.partition(":")[0], given.program), "data": given.data,
-                "transactions": str(given.transactions), "runs": str(given.runs),
+                "kills": str(given.kills), "transactions": str(given.transactions), "runs": str(given.runs),
                 "committed": f"{statistics.median(commits):.0f}", **{level: str(broken[level]) for level in LEVELS},
                 "not decided": str(undecided), "anomalies": told, "seconds": f"{statistics.median(seconds):.2f}",
-            }, ("system", "data"))
+            }, ("system", "data", "kills"))
 
 
 def sizes(given: argparse.Namespace) -> None:
@@ -124,8 +128,7 @@ def table(columns: Sequence[str], rows: Iterable[Sequence[str]]) -> str:
 def of_levels(row: Row) -> Sequence[str]:
     """A row of the first table: how often each level was broken, and by what."""
     broken = [row[level] if row[level] != "0" else "-" for level in LEVELS]
-    name = row["system"] + (f", {row['data']}" if row["data"] != "objects" else "")
-    return [name, *broken, row["not decided"] if row["not decided"] != "0" else "-", row["anomalies"] or "-", row["seconds"]]
+    return [row["system"], *broken, "-" if row["not decided"] == "0" else row["not decided"], row["anomalies"] or "-", row["seconds"]]
 
 
 def of_sizes(row: Row) -> Sequence[str]:
@@ -136,14 +139,17 @@ def of_sizes(row: Row) -> Sequence[str]:
 def filled(text_of_page: str) -> str:
     """The page with what was measured, each table below its heading, and the versions."""
     order = {system: at for at, system in enumerate(SYSTEMS)}
-    told = sorted(rows_of("levels"), key=lambda row: (row["data"] != "objects", row["data"], order[row["system"]]))
-    first = table(["system", *LEVELS, "not decided", "anomalies", "seconds"], map(of_levels, told))
+    told = sorted(rows_of("levels"), key=lambda row: order[row["system"]])
+    made = dict[str, str]()
+    for heading, data, is_killed in RUNS:
+        rows = [row for row in told if (row["data"], row["kills"] != "0") == (data, is_killed)]
+        made[heading] = table(["system", *LEVELS, "not decided", "anomalies", "seconds"], map(of_levels, rows))
     sized = sorted(rows_of("sizes"), key=lambda row: (SIZED.index(row["system"]), int(row["transactions"])))
-    second = table(["system", "transactions", "strongest level", "judge", "check"], map(of_sizes, sized))
-    for heading, made in (("A hundred runs", first), ("Sizes", second)):
+    made["Sizes"] = table(["system", "transactions", "strongest level", "judge", "check"], map(of_sizes, sized))
+    for heading, lines in made.items():
         pattern = rf"(?m)(^## {heading}\n\n(?:[^|#\n].*\n)+\n)(?:\|.*\n)*\n?"
-        before, text_of_page = text_of_page, re.sub(pattern, rf"\g<1>{made}\n", text_of_page)
-        if before == text_of_page and made not in before:
+        before, text_of_page = text_of_page, re.sub(pattern, rf"\g<1>{lines}\n", text_of_page)
+        if before == text_of_page and lines not in before:
             raise Failed(f"the page has no table of {heading}")
     versions = ", ".join(dict.fromkeys(row["version"] for row in told))
     return re.sub(r"(?m)^Versions: .*$", f"Versions: {versions}.", text_of_page)
@@ -164,6 +170,7 @@ def main() -> None:
     runs.add_argument("--runs", type=int, default=100)
     runs.add_argument("--transactions", type=int, default=200)
     runs.add_argument("--data", default="objects")
+    runs.add_argument("--kills", type=int, default=0)
     runs.add_argument("systems", metavar="SYSTEM", nargs="*")
     sized = commands.add_parser("sizes", help="judges histories of several sizes")
     sized.add_argument("--most", type=int, default=SIZES[-1])

@@ -142,9 +142,14 @@ def recorded_at(place: Place, wanted: Wanted) -> str:
     left, done = iter(drawn), count(1)
 
     def work(client: Client) -> None:
-        for one in left:
-            client.run(one)
-            faults.progress = next(done)
+        try:
+            for one in left:
+                client.run(one)
+                faults.progress = next(done)
+        except Exception:
+            # What fails for one client ends the work of all.
+            all(left)
+            raise
 
     with ExitStack() as stack:
         connect = stack.enter_context(
