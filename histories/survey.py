@@ -24,8 +24,9 @@ sys.dont_write_bytecode = True
 HERE = Path(__file__).resolve().parent
 sys.path.insert(0, str(HERE))
 from mltx_histories import text  # noqa: E402
+from mltx_histories.finding import found_program  # noqa: E402
 from mltx_histories.levels import judge  # noqa: E402
-from mltx_histories.program import accepted, found_program  # noqa: E402
+from mltx_histories.program import accepted  # noqa: E402
 from mltx_histories.record import Wanted, recorded_at  # noqa: E402
 from mltx_histories.systems import SYSTEMS, Failed, Place, servers  # noqa: E402
 

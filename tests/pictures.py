@@ -367,7 +367,7 @@ def part_of_a_trace_that_is_not_there(mltx: Program) -> None:
         expect(run("--trace", *words, file), status=1, err=fault, what=f"{words}")
     for words in (["--from", "0"], ["--to", "-1"], ["--tx", "1,"], ["--tx", "x"], ["--page", "--to", "2"]):
         ran = run("--trace", *words, file)
-        holds(ran.status == 2 and not ran.out and b"usage: picture" in ran.err, f"{words}: {ran}")
+        holds(ran.status == 2 and not ran.out and b"usage: mltx-picture" in ran.err, f"{words}: {ran}")
     same(run("--from", "1", schedule).status, 2, "a part of a schedule")
 
 
@@ -465,7 +465,7 @@ def picture_without_its_files(mltx: Program) -> None:
     wrong: list[list[str]] = [[], ["--trace", schedule, schedule], ["--hash", "none", schedule]]
     for words in [*wrong, ["--hash", "low", schedule, schedule]]:
         ran = run(*words)
-        holds(ran.status == 2 and not ran.out and b"usage: picture" in ran.err, f"{words}: {ran}")
+        holds(ran.status == 2 and not ran.out and b"usage: mltx-picture" in ran.err, f"{words}: {ran}")
 
 
 @test

@@ -8,9 +8,9 @@ from pathlib import Path
 
 from . import judge
 from .faults import Given
+from .finding import found_program
 from .model import Faulty
 from .plan import IN_USE, KINDS
-from .program import found_program
 from .record import Wanted, counted, recorded
 from .report import report
 from .systems import LEVELS, OTHERS, SYSTEMS, Failed, address_of, named

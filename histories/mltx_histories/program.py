@@ -1,5 +1,4 @@
-"""Finds the program `mltx`, and has it check an order."""
-import shutil
+"""Has the program `mltx` check an order."""
 import subprocess
 from collections.abc import Sequence
 from functools import cache
@@ -10,17 +9,8 @@ from . import replay
 from .systems.base import Failed
 from .text import Transaction, base, trace
 
-# Where the clone is in which the package stands, if it stands in one.
-CLONE = Path(__file__).resolve().parents[2]
 # Who accepts an order.
 CHECKED, NOT_PROVED, REPLAYED = "which mltx check accepts", "; this mltx is not proved", "which a replay accepts"
-
-
-def found_program() -> Path:
-    """The program of the clone, else that on the PATH; where neither is there, the name alone."""
-    if (CLONE / "mltx").is_file() and (CLONE / "crates").is_dir():
-        return CLONE / "mltx"
-    return Path(shutil.which("mltx") or "mltx")
 
 
 @cache

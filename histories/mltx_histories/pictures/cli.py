@@ -25,7 +25,7 @@ import argparse
 import sys
 from pathlib import Path
 
-from ..program import found_program
+from ..finding import found_program
 from . import events, gallery, progress
 from .draw import picture
 from .page import page
