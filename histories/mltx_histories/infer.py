@@ -391,7 +391,7 @@ class Web:
         count = len(self.nodes)
         return [*range(count), *[-1] * (self.size - count), *range(count)]
 
-    @property
+    @cached_property
     def has_times(self) -> bool:
         """Whether it is known when transactions began and ended."""
         return any(node.one.start > -inf or node.one.end < inf for node in [*self.nodes, *self.lost])
