@@ -9,7 +9,7 @@ import socket
 import subprocess
 import time
 from collections.abc import Callable, Iterator, Sequence
-from contextlib import contextmanager
+from contextlib import contextmanager, suppress
 from pathlib import Path
 
 from .base import START, Address, Failed
@@ -88,11 +88,17 @@ class Server:
 
     def kill(self) -> None:
         """Kills it with what it started."""
-        try:
+        with suppress(ProcessLookupError):
             os.killpg(self.process.pid, signal.SIGKILL)
-        except ProcessLookupError:
-            pass
         self.process.wait()
+
+    def stop(self) -> None:
+        """Ends it. PostgreSQL gives back its shared memory only if it is asked to end, here at once."""
+        if self.kind == "postgres" and self.process.poll() is None:
+            self.process.send_signal(signal.SIGQUIT)
+            with suppress(subprocess.TimeoutExpired):
+                self.process.wait(START)
+        self.kill()
 
     def again(self) -> None:
         """Kills it and starts it; what another process still holds is waited for."""
@@ -164,7 +170,7 @@ def running(kind: str, program: Path, folder: Path) -> Iterator[Server]:
     try:
         yield server
     finally:
-        server.kill()
+        server.stop()
 
 
 def version(kind: str, program: Path) -> str:
