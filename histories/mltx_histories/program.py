@@ -17,7 +17,7 @@ CHECKED, NOT_PROVED, REPLAYED = "which mltx check accepts", "; this mltx is not 
 def version(program: Path) -> str:
     """What the program says that it is, as `mltx 0.1.0 (not proved)`; nothing where it is not there."""
     try:
-        ran = subprocess.run([program, "--version"], capture_output=True, text=True)
+        ran = subprocess.run([program, "--version"], stdout=subprocess.PIPE, text=True)
     except OSError:
         return ""
     return ran.stdout.strip().partition("\n")[0] if ran.returncode == 0 else ""
