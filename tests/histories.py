@@ -1,10 +1,11 @@
 """Histories: tools/histories finds the anomaly that was planted in a history, and tells the cycle worked out by hand; of clean
 histories it finds an order that the program's check accepts."""
+import importlib
 import random
 import subprocess
 import sys
 from collections import Counter
-from collections.abc import Sequence
+from collections.abc import Callable, Sequence
 from dataclasses import dataclass
 from itertools import combinations, permutations
 from pathlib import Path
@@ -13,7 +14,7 @@ import harness
 import model
 from harness import ROOT, Program, Ran, each, expect, holds, lines, same, test
 
-sys.path.insert(0, str(ROOT / "histories"))
+sys.path[:0] = [str(ROOT / "histories"), str(ROOT / "histories/tests")]
 from mltx_histories import text  # noqa: E402
 from mltx_histories.order import find  # noqa: E402
 from mltx_histories.program import NOT_PROVED, accepted, version  # noqa: E402
@@ -219,3 +220,16 @@ def small_histories(_mltx: Program) -> None:
             same(find(text.read(written(made)), is_strict, SECONDS, tries).is_found, wanted, written(made))
         counts[wanted] += 1
     holds(min(counts.values()) > 20, f"both happen: {counts}")
+
+
+def of_package() -> dict[str, Callable[[], object]]:
+    """The tests of the package, which pytest runs too: by their names the functions of its files."""
+    modules = [importlib.import_module(file.stem) for file in sorted((ROOT / "histories/tests").glob("test_*.py"))]
+    return {name[5:].replace("_", "-"): call for it in modules for name, call in vars(it).items() if name.startswith("test_")}
+
+
+@each(of_package(), seconds=3)
+def package(_mltx: Program, call: Callable[[], object]) -> None:
+    """A test without arguments, with as many random cases as are asked for."""
+    importlib.import_module("small").CASES = harness.CASES
+    call()

@@ -1,0 +1,107 @@
+"""What replies tell: sums against all subsets, real time against all pairs, and how many links there are."""
+import random
+import time
+from itertools import combinations
+
+from mltx_histories import text
+from mltx_histories.cycles import reached, sorted_out
+from mltx_histories.infer import Amounts, Web
+from mltx_histories.levels import LEVELS, judge
+from mltx_histories.order import find
+
+# The processor time in seconds for 10,000 transactions with one anomaly.
+MOST_SECONDS = 5
+
+
+def test_sums_tell_their_transactions() -> None:
+    """Of the values that amounts can come to, those of one set tell it, those of several tell nothing, and others are none."""
+    for number in range(300):
+        source = random.Random(f"{number} of sums")
+        amounts = [source.choice((-1, 1)) * (3**at if number % 2 else source.randrange(1, 9)) for at in range(source.randrange(7))]
+        writers = list(enumerate(source.sample(amounts, len(amounts)), 10))
+        without = source.choice([it for it, _ in writers] + [99])
+        sets: dict[int, list[frozenset[int]]] = {}
+        others = [it for it in writers if it[0] != without]
+        for count in range(len(others) + 1):
+            for some in combinations(others, count):
+                sets.setdefault(sum(it for _, it in some), []).append(frozenset(at for at, _ in some))
+        for value in range(min(sets) - 2, max(sets) + 3):
+            found, wanted = Amounts(writers).sets_of(value % 2**64, without), sets.get(value, [])
+            assert found == wanted or len(wanted) > 1 and found is None or found is None and number % 2 == 0, (writers, without, value)
+        if number % 2:
+            assert all(Amounts(writers).sets_of(value, without) == some for value, some in sets.items()), "powers of three are clear"
+
+
+def test_real_time_is_that_of_all_pairs() -> None:
+    """The chain leads from one transaction to another just where one ended before the other began."""
+    for number in range(60):
+        source = random.Random(f"{number} of times")
+        times = [(it := source.randrange(40), it + source.randrange(12)) for _ in range(12)]
+        history = "".join(f"begin {at} at {start}\ncommit {at} at {end}\n" for at, (start, end) in enumerate(times))
+        web = Web(text.read(history))
+        links = web.whole("time")
+        behind = reached(links, [1 << at if at < 12 else 0 for at in range(web.size)])
+        for one, other in ((one, other) for one in range(12) for other in range(12) if one != other):
+            is_before = web.nodes[one].one.end < web.nodes[other].one.start
+            assert bool(behind[one] >> other & 1) == is_before, history
+        assert sum(map(len, links)) <= 3 * 12, "a few links for each transaction"
+
+
+def long_history(count: int, is_timed: bool, has_skew: bool) -> str:
+    """Serial transactions that read a counter and add to another one, each a power of two; in the middle two miss each other."""
+    source, lines, now = random.Random(f"{count} long"), list[str](), 0
+    counters = max(2, count // 40)
+    values, bits = [0] * counters, [0] * counters
+
+    def at(number: int, *done: str, is_open: bool = False) -> list[str]:
+        times = [f" at {number * 10 + it}" * is_timed for it in (0, 15 if is_open else 5)]
+        return [f"begin {number}{times[0]}", *(f"op {number} {it}" for it in done), f"commit {number}{times[1]}"]
+
+    def up(counter: int) -> int:
+        bits[counter] += 1
+        return 1 << (bits[counter] - 1)
+
+    while now < count:
+        one, other = source.sample([it for it in range(counters) if bits[it] < 60], 2)
+        now += 1
+        if has_skew and now == count // 2:
+            first, second = up(other), up(one)
+            lines += at(now, f"read {one} is {values[one]}", f"up {other} {first} done", is_open=True)
+            now += 1
+            lines += at(now, f"read {other} is {values[other]}", f"up {one} {second} done")
+            values[other] += first
+            values[one] += second
+            continue
+        amount = up(other)
+        lines += at(now, f"read {one} is {values[one]}", f"up {other} {amount} done")
+        values[other] += amount
+    return "".join(line + "\n" for line in lines)
+
+
+def test_long_histories_are_judged_soon() -> None:
+    for is_timed in (True, False):
+        began = time.process_time()
+        outcome = find(text.read(long_history(10_000, is_timed, True)), is_timed, 60)
+        took = time.process_time() - began
+        assert outcome.told.splitlines()[0] == "no order: a cycle of 2 transactions", outcome.told
+        assert [line.split()[:3] for line in outcome.told.splitlines()[1:]] == [["5000", "before", "5001:"], ["5001", "before", "5000:"]]
+        assert took < MOST_SECONDS, f"{took:.1f} s of the processor"
+
+
+def test_levels_of_long_histories() -> None:
+    for is_timed in (True, False):
+        for has_skew in (True, False):
+            judged = judge(text.read(long_history(2_000, is_timed, has_skew)), 60)
+            wanted = dict(zip(LEVELS, (True, True, not has_skew, False if has_skew else True if is_timed else None)))
+            assert judged.verdicts == wanted, judged.told()
+            if has_skew:
+                anomaly = judged.anomalies["serializable"]
+                assert (anomaly.name, [one.number for one in anomaly.transactions]) == ("write skew (G2-item)", [1000, 1001])
+
+
+def test_links_are_as_many_as_replies() -> None:
+    web = Web(text.read(long_history(2000, True, False)))
+    count = sum(len(behind) for links in web.links.values() for behind in links.values())
+    assert count < 12 * 2000
+    links = web.whole("wr", "rw", "time")
+    assert len(sorted_out(links)) == len(links)
