@@ -1,7 +1,7 @@
 """Whether a history without cycles of `ww` and `wr` is read committed.
 
-What replies don't decide must be what some whole transactions that come before make. The more are before, the more can be made, so that
-transactions are placed one after another wherever they can be, until all are, or none can."""
+What replies don't decide must be what some whole transactions that come before make. The more are before, the more can be made,
+so that transactions are placed one after another wherever they can be, until all are, or none can."""
 from collections.abc import Iterable, Iterator, Sequence
 from itertools import chain, groupby
 
@@ -66,8 +66,10 @@ class Placing:
             elif own:
                 if seen != node.left[cell][own - 1][0]:
                     yield done
-            elif seen is not None and not any(self.nodes[it].left[cell][-1][0] == seen for it in self.web.writers[cell] if it in self.placed):
-                yield done
+            elif seen is not None:
+                writers = (self.nodes[it] for it in self.web.writers[cell] if it in self.placed)
+                if not any(it.left[cell][-1][0] == seen for it in writers):
+                    yield done
 
     def _is_made(self, needs: Sequence[tuple[Need, int]], changes: Sequence[tuple[int, ...]]) -> bool:
         """Whether some of these changes lead to values that are all needed."""

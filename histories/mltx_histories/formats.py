@@ -1,8 +1,8 @@
 """Reads histories in other formats: EDN and JSON lines as Jepsen and Elle write them, and JSON of our own.
 
 Of Jepsen each operation is a map with `:type`, `:process`, `:f`, `:value` and perhaps `:time` and `:index`. An `:invoke` and the
-`:ok`, `:fail` or `:info` of its process that follows make a transaction, whose end is not known after `:info` or none. `:value` has
-micro-operations: `[:r k v]`, `[:w k v]`, `[:append k v]`, and operations of our own, as `[:up 7 1]` or `[:size 4 2]`.
+`:ok`, `:fail` or `:info` of its process that follows make a transaction, whose end is not known after `:info` or none.
+`:value` has micro-operations: `[:r k v]`, `[:w k v]`, `[:append k v]`, and operations of our own, as `[:up 7 1]`.
 JSON of our own has an object for each transaction."""
 import json
 import re
@@ -130,7 +130,7 @@ def _collection(opening: str, line: int, tokens: Iterator[tuple[int, str, int]])
 
 
 def _word(value: Value) -> str:
-    """A value as one word of a history. Numbers, keywords and short texts stand as they are, but for texts that look like others."""
+    """A value as one word of a history. Numbers, keywords and most texts of one word stand as they are."""
     if isinstance(value, _Keyword) or isinstance(value, str) and re.fullmatch(r"(?!nil$|is$)[A-Za-z_][\w.:+/-]*", value):
         return str(value)
     if isinstance(value, int) and not isinstance(value, bool):
@@ -215,8 +215,8 @@ def _own(it: dict[str, Value], at: int) -> Transaction:
     end = _number(it.get("end"), inf)
     return Transaction(
         int(_number(it.get("transaction"), at)), start, end if kept else inf, kept, _number(it.get("order"), inf),
-        end if end < inf or start > -inf else at, _operations(it.get("operations"), True, where), re.sub(r"\s", "_", str(it.get("client", ""))),
-        start if start > -inf else at)
+        end if end < inf or start > -inf else at, _operations(it.get("operations"), True, where),
+        re.sub(r"\s", "_", str(it.get("client", ""))), start if start > -inf else at)
 
 
 def as_json(transactions: Iterable[Transaction]) -> str:

@@ -71,7 +71,7 @@ class Amounts:
         return found if self.span < BIG else {}
 
     def sets_of(self, value: int, without: int) -> list[frozenset[int]] | None:
-        """The sets of transactions, but for this one, that add up to a value modulo 2^64: one, none, or None if that is unknown."""
+        """The sets of transactions, but for this one, that add up to a value modulo 2^64: one, none, or None if unknown."""
         key = (value, without)
         if key not in self.found:
             self.found[key] = self._seen(value, without)
@@ -220,8 +220,9 @@ class Web:
                 sources = [[it for it in wrote.get((cell, value), ()) if it[0] != at] for value in others]
                 for value, found in zip(others, sources):
                     if not found and (cell, value) in lost:
-                        fault = Fault("G1a (aborted read)", f"{told} sees {value} of {lost[cell, value].number}, which was aborted",
-                                      (node.number, lost[cell, value].number))
+                        other = lost[cell, value].number
+                        what = f"{told} sees {value} of {other}, which was aborted"
+                        fault = Fault("G1a (aborted read)", what, (node.number, other))
                     elif not found or others.count(value) > len(found):
                         fault = Fault("impossible read", f"{told} has {value}, which nobody wrote before", number)
                     else:
@@ -330,8 +331,9 @@ class Web:
         longest = max(reads, key=lambda it: len(it.value))
         for it in reads:
             if it.value != longest.value[:len(it.value)]:
-                told = f"{it.done} of {self.nodes[it.at].number} and {longest.done} of {self.nodes[longest.at].number} have no common order"
-                self.faults.append(Fault("incompatible orders", told, (self.nodes[it.at].number, self.nodes[longest.at].number)))
+                one, other = self.nodes[it.at].number, self.nodes[longest.at].number
+                told = f"{it.done} of {one} and {longest.done} of {other} have no common order"
+                self.faults.append(Fault("incompatible orders", told, (one, other)))
                 return
         whose = {value: at for at in writers for value, _ in self.nodes[at].left[cell]}
         order = [whose[value] for value in longest.value]

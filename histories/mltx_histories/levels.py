@@ -3,10 +3,10 @@
 Read committed is PL-2 of Adya, Liskov and O'Neil (Generalized Isolation Level Definitions, ICDE 2000): no G0, G1a, G1b or G1c.
 Additions to one number have no order, as they commute. Snapshot isolation is that of Cerone and Gotsman (Analysing Snapshot
 Isolation, PODC 2016): each transaction sees those that committed before its snapshot, and of two that change one object one
-commits before the snapshot of the other; real time does not count. An account is one object with its balance, and sizes of sets are
-read as predicates. Serializable is an order that explains all replies, strict serializable one that keeps real time (Herlihy
-and Wing 1990). Lost update, write skew, read skew and phantom are named as by Berenson et al. (A Critique of ANSI SQL Isolation
-Levels, SIGMOD 1995), and the others as in Elle (Kingsbury and Alvaro, VLDB 2020)."""
+commits before the snapshot of the other; real time does not count. An account is one object with its balance, and sizes of
+sets are read as predicates. Serializable is an order that explains all replies, strict serializable one that keeps real
+time (Herlihy and Wing 1990). Lost update, write skew, read skew and phantom are named as by Berenson et al. (A Critique of ANSI
+SQL Isolation Levels, SIGMOD 1995), and the others as in Elle (Kingsbury and Alvaro, VLDB 2020)."""
 import time
 from collections.abc import Iterable, Sequence
 from dataclasses import dataclass, field
@@ -22,7 +22,8 @@ from .replay import replay, replay_snapshots
 from .search import Search, parts, ranked
 from .versions import Saturation
 
-COMMITTED, SNAPSHOT, SERIALIZABLE, STRICT = LEVELS = ("read committed", "snapshot isolation", "serializable", "strict serializable")
+LEVELS = ("read committed", "snapshot isolation", "serializable", "strict serializable")
+COMMITTED, SNAPSHOT, SERIALIZABLE, STRICT = LEVELS
 # The links that each level excludes in a cycle.
 KINDS = {
     COMMITTED: ("ww", "wr"), SNAPSHOT: ("ww", "wr", "rw", "conflict"), SERIALIZABLE: ("ww", "wr", "rw"),
@@ -41,8 +42,8 @@ class Anomaly:
 
 @dataclass
 class Judged:
-    """By level whether it holds, None where that is not decided, and the anomaly that breaks it; the order or the snapshots that show
-    the strongest level which holds; and what would help to decide the others."""
+    """By level whether it holds, None where that is not decided, and the anomaly that breaks it; an order, where one
+    was found; and what would help to decide the others."""
 
     verdicts: dict[str, bool | None] = field(default_factory=lambda: dict.fromkeys(LEVELS))
     anomalies: dict[str, Anomaly] = field(default_factory=dict)

@@ -1,7 +1,7 @@
 """A history in memory: transactions, their operations with replies, and what each operation needs and changes.
 
-Accounts, sets and counters are numbers of cells, by the tables of docs/LANGUAGE.md: an operation needs them in a range and adds to
-them. A register has the value that was written last, and a list what was appended, in order; servers of this project have
+Accounts, sets and counters are numbers of cells, by the tables of docs/LANGUAGE.md: an operation needs them in a range and adds
+to them. A register has the value that was written last, and a list what was appended, in order; servers of this project have
 neither, so that they are kinds of a history alone."""
 from collections import defaultdict
 from collections.abc import Callable, Iterable, Sequence
@@ -43,8 +43,8 @@ class Need:
 
 @dataclass(frozen=True)
 class Effect:
-    """Where an operation gets its reply, and by how much it raises cells. `seen` is a register or a list with what was read of it,
-    `left` with what was written or appended."""
+    """Where an operation gets its reply, and by how much it raises cells. `seen` is a register or a list with what was read of
+    it, `left` with what was written or appended."""
 
     needs: tuple[Need, ...] = ()
     changes: dict[Cell, int] = field(default_factory=dict)
@@ -155,8 +155,8 @@ class Transaction:
 
 
 def settled(transactions: Sequence[Transaction], kind: str = "counter") -> list[Transaction]:
-    """The same, where each `read` is one of a register, of a list or of a counter, by what else names it; and where nothing does, of
-    this kind. Raises `Faulty` where one name is of two kinds."""
+    """The same, where each `read` is one of a register, of a list or of a counter, by what else names it; and where nothing does,
+    of this kind. Raises `Faulty` where one name is of two kinds."""
     kinds: dict[str, str] = {}
     for verb, *names in {tuple(it.asked.split()) for one in transactions for it in one.done}:
         found = {"write": "register", "append": "list", "up": "counter", "down": "counter"}.get(verb)

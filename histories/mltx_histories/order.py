@@ -1,8 +1,8 @@
 """Looks for an order of committed transactions in which each would be answered what it was answered.
 
-What replies tell of themselves is read first, and has a cycle if it contradicts itself. A search then places one transaction after
-another. Where it fails soon, sums whose transactions are not known give more links: they have a cycle, or there is a reply that
-no order gives, or they help a second search."""
+What replies tell of themselves is read first, and has a cycle if it contradicts itself. A search then places one transaction
+after another. Where it fails soon, sums whose transactions are not known give more links: they have a cycle, or there is a
+reply that no order gives, or they help a second search."""
 import time
 from collections import defaultdict
 from collections.abc import Iterable, Iterator, Sequence
@@ -248,6 +248,7 @@ def _is_placed(at: int, first: int, mask: int) -> bool:
 
 def lacking(web: Web) -> str:
     """What would help to decide it."""
-    told = sorted({f"\n  {cell[0]} {cell[1]} has {why}, so that its replies don't tell what they saw" for cell, why in web.unclear.items()})
+    more = "so that its replies don't tell what they saw"
+    told = sorted({f"\n  {cell[0]} {cell[1]} has {why}, {more}" for cell, why in web.unclear.items()})
     told = [*told[:3], *["\n  .."] * (len(told) > 3)]
     return "".join(told) + ("" if web.has_times else "\n  it has no times; with them it can be looked for by --strict")

@@ -14,6 +14,10 @@ from .cycles import Links
 from .model import BIG, Cell, Need, Node, Seen
 
 
+# What registers and lists have at first.
+NOTHING: dict[str | int, Seen] = {"register": None, "list": ()}
+
+
 class Step:
     """What is placed: a transaction, its snapshot or its commit. `at` is its node in the graph."""
 
@@ -166,7 +170,7 @@ class Search:
     def _may_run(self, step: Step) -> bool:
         return (not step.is_broken and not self._buries(step)
                 and all(need.low <= (self.values[need.cell] + own) % BIG <= need.high for need, own in step.needs)
-                and all((self.kept.get(cell) or (None if cell[0] == "register" else ())) == seen for cell, seen in step.views.items()))
+                and all((self.kept.get(cell) or NOTHING[cell[0]]) == seen for cell, seen in step.views.items()))
 
     def _put(self, at: int) -> None:
         step, before = self.steps[at], list[tuple[Cell, Seen]]()

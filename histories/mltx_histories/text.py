@@ -7,8 +7,8 @@ from math import inf
 from .model import BIG, MOST, REPLIES, Cell, Done, Effect, Faulty, Need, Transaction, answer, done, effect, settled
 
 __all__ = [
-    "BIG", "MOST", "REPLIES", "Cell", "Done", "Effect", "Faulty", "Need", "Transaction", "answer", "as_traced", "base", "effect", "read",
-    "trace", "written",
+    "BIG", "MOST", "REPLIES", "Cell", "Done", "Effect", "Faulty", "Need", "Transaction", "answer", "as_traced", "base", "effect",
+    "read", "trace", "written",
 ]
 LINE = re.compile(
     r"begin (?P<begin>\d+)(?: by (?P<client>\S+))?(?: at (?P<start>\d+))?"

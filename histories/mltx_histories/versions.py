@@ -16,8 +16,8 @@ MOST_NODES = 100_000
 
 
 class Saturation:
-    """A graph of a web, to which links are added until no more follow, or there is a cycle. In the graph of snapshots `commit` is how
-    many nodes behind its snapshot a commit stands, else it is 0."""
+    """A graph of a web, to which links are added until no more follow, or there is a cycle. In the graph of snapshots `commit` is
+    how many nodes behind its snapshot a commit stands, else it is 0."""
 
     def __init__(self, web: Web, links: list[list[int]], is_parted: bool) -> None:
         self.web, self.links, self.commit = web, links, web.size if is_parted else 0
@@ -57,15 +57,15 @@ class Saturation:
     def _order(self, cell: Cell, reads: list[tuple[int, Read]], after: list[int], before: list[int]) -> None:
         writers, nodes = self._writers(cell), self.web.nodes
         for source, read in reads:
-            wrote, told = nodes[source].step_on(cell), f"{read.done} of {nodes[read.at].number}"
+            told = f"{read.done} of {nodes[read.at].number} sees {nodes[source].step_on(cell)} of {nodes[source].number}, and"
             others = writers & ~(1 << source | 1 << read.at)
             later = after[source] >> self.apart & others & ~(after[read.at] >> self.apart)
             for it in bits_of(later):
-                what = f"{told} sees {wrote} of {nodes[source].number}, and {nodes[it].step_on(cell)} of {nodes[it].number} comes later"
+                what = f"{told} {nodes[it].step_on(cell)} of {nodes[it].number} comes later"
                 self._add(Hop("rw", read.at, it, cell, what), read.at, self.commit + it)
             for it in bits_of(before[read.at] >> self.apart & others):
                 if not after[self.commit + it] >> source & 1:
-                    what = f"{told} sees {wrote} of {nodes[source].number}, and {nodes[it].step_on(cell)} of {nodes[it].number} came before"
+                    what = f"{told} {nodes[it].step_on(cell)} of {nodes[it].number} came before"
                     self._add(Hop("must", it, source, cell, what), self.commit + it, source)
 
     def _exclude(self, cell: Cell, writers: list[int], after: list[int]) -> None:
@@ -74,8 +74,9 @@ class Saturation:
         for one in writers if len(writers) > 1 else ():
             later = after[one] >> self.apart & all_of_them & ~(1 << one) & ~after[self.commit + one]
             for it in bits_of(later):
-                steps = [nodes[at].step_on(inner if inner in nodes[at].steps else cell) for at in (one, it)]
-                what = f"{steps[0]} of {nodes[one].number} and {steps[1]} of {nodes[it].number} change one object, and {nodes[it].number} is not first"
+                members = [nodes[one], nodes[it]]
+                steps = [f"{at.step_on(inner if inner in at.steps else cell)} of {at.number}" for at in members]
+                what = f"{steps[0]} and {steps[1]} change one object, and {nodes[it].number} is not first"
                 self._add(Hop("conflict", one, it, cell, what), self.commit + one, it)
 
     def _add(self, hop: Hop, first: int, second: int) -> None:

@@ -1,7 +1,7 @@
 """Small random histories, and whether they keep each level, by trying all orders: nothing of the package is used here.
 
-Operations are tuples as ("up", 7, 1), ("read", 7) of a counter, ("write", "x", 3), ("get", "x"), ("append", "l", 4), ("all", "l") and those
-on accounts and sets; replies are words, numbers, None or tuples."""
+Operations are tuples as ("up", 7, 1), ("read", 7) of a counter, ("write", "x", 3), ("get", "x"), ("append", "l", 4), ("all", "l")
+and those on accounts and sets; replies are words, numbers, None or tuples."""
 import json
 import os
 import random
@@ -12,7 +12,8 @@ from itertools import combinations, permutations
 from math import inf
 from typing import Any
 
-Op, Reply = tuple[Any, ...], Any
+Op = tuple[Any, ...]
+Reply = Any
 MOST = 10**18
 # So many times as many cases are tried as usual.
 CASES = int(os.environ.get("MLTX_CASES", 1))
@@ -31,7 +32,7 @@ class Made:
 
 
 class State:
-    """What objects have: an account is (is there, coins), an element a truth, a counter a number, a register a value, a list a tuple."""
+    """What objects have: an account is (is there, coins), elements and counters numbers, a register a value, a list a tuple."""
 
     def __init__(self) -> None:
         self.values: dict[tuple[Any, ...], Any] = {}
@@ -58,8 +59,10 @@ class State:
         found = self.get(kind, name)
         if verb in ("read", "get", "all"):
             return found
-        self.values[kind, name] = {"up": lambda: (found + last) % 2**64, "down": lambda: (found - last) % 2**64, "write": lambda: last,
-                                   "append": lambda: found + (last,)}[verb]()
+        if verb in ("up", "down"):
+            self.values[kind, name] = (found + (last if verb == "up" else -last)) % 2**64
+        else:
+            self.values[kind, name] = last if verb == "write" else found + (last,)
         return "done"
 
 
@@ -114,8 +117,8 @@ def keeps_time(order: Sequence[Made]) -> bool:
 
 
 def has_snapshots(order: Sequence[Made]) -> bool:
-    """Whether, if they commit in this order, each has a snapshot behind some of those before it which explains its replies, and none
-    of the others before it changes what it changes."""
+    """Whether, if they commit in this order, each has a snapshot behind some of those before it which explains its replies, and
+    none of the others before it changes what it changes."""
     states = [State()]
     for at, one in enumerate(order):
         for first in range(at, -1, -1):
@@ -145,16 +148,17 @@ def _sees_committed(before: Sequence[Made], one: Made, place: int) -> bool:
         return True
     own = list(zip(one.ops, one.replies))[:place]
     if verb == "get":
-        mine = [it[2] for it, _ in own if it[:2] == ("write", name)]
+        wrote = [it[2] for it, _ in own if it[:2] == ("write", name)]
         lasts = [[it[2] for it in other.ops if it[:2] == ("write", name)][-1:] for other in before]
-        return reply == mine[-1] if mine else reply is None or [reply] in lasts
+        return bool(reply == wrote[-1]) if wrote else reply is None or [reply] in lasts
     if verb == "all":
         mine = tuple(it[2] for it, _ in own if it[:2] == ("append", name))
-        steps, found = [()], ()
+        found: tuple[Any, ...] = ()
+        steps = [found]
         for other in before:
             found += tuple(it[2] for it in other.ops if it[:2] == ("append", name))
             steps.append(found)
-        return reply == found + mine if mine else reply in steps
+        return bool(reply == found + mine) if mine else reply in steps
     sums = [_added(list(zip(it.ops, it.replies)), op) for it in before]
     start = _added(own, op)
     return any(_fits(op, reply, [sum(it) for it in zip(start, *some)])
@@ -182,12 +186,13 @@ def _fits(op: Op, reply: Reply, found: Sequence[int]) -> bool:
     if op[0] in ("size", "read"):
         return bool(first % 2**64 == reply)
     if op[0] in ("add", "remove", "has"):
-        return first in (0, 1) and reply == {"add": ("added", "present"), "remove": ("absent", "removed"), "has": ("no", "yes")}[op[0]][first]
+        replies = {"add": ("added", "present"), "remove": ("absent", "removed"), "has": ("no", "yes")}[op[0]]
+        return first in (0, 1) and bool(reply == replies[first])
     if first not in (0, 1):
         return False
     if op[0] == "open" or not first:
-        return account(op[0], first, 0, 0)[0] == reply if op[0] == "open" or not first else False
-    return second >= 0 and second <= MOST and account(op[0], 1, second, op[-1])[0] == reply
+        return bool(account(op[0], first, 0, 0)[0] == reply)
+    return 0 <= second <= MOST and bool(account(op[0], 1, second, op[-1])[0] == reply)
 
 
 LEVELS: dict[str, Callable[[Sequence[Made]], bool]] = {
@@ -214,15 +219,17 @@ def drawn(source: random.Random, kinds: Sequence[str], fresh: Iterator[int], is_
         return source.choice([("append", f"l{name}", value), ("all", f"l{name}"), ("all", f"l{name}")])
     if kind == "set":
         element = value if is_clear else source.randrange(1, 3)
-        return source.choice([("add", name, element), ("remove", name, source.randrange(1, 4)), ("has", name, source.randrange(1, 4)),
-                              ("size", name)][::1 if not is_clear or source.random() < 0.1 else 2] + [("size", name)])
+        other = source.randrange(1, 4)
+        removes = [("remove", name, other)] if not is_clear or source.random() < 0.1 else []
+        return source.choice([("add", name, element), *removes, ("has", name, other), ("size", name)])
     return source.choice([("open", name), ("close", name), ("balance", name), ("balance", name), ("deposit", name, amount),
                           ("withdraw", name, amount)])
 
 
 def made_up(source: random.Random, is_clear: bool) -> list[Made]:
     """Three to five transactions of a system with more or less isolation."""
-    kinds = source.choice([["counter"], ["register"], ["list"], ["set"], ["account"], ["counter", "register", "list", "set", "account"]])
+    alone = ["counter", "register", "list", "set", "account"]
+    kinds = source.choice([*([it] for it in alone), alone])
     fresh, count = iter(range(60)), source.randrange(3, 6)
     made = []
     for number in range(1, count + 1):
@@ -241,7 +248,8 @@ def made_up(source: random.Random, is_clear: bool) -> list[Made]:
         mine = deepcopy(states[-1] if how == "serial" else source.choice(states[-3:]))
         for op in one.ops:
             if how == "mixed" and source.random() < 0.5:
-                mine.values = {**source.choice(states).values, **{key: mine.values[key] for key in writes(one) if key in mine.values}}
+                own = {key: mine.values[key] for key in writes(one) if key in mine.values}
+                mine.values = {**source.choice(states).values, **own}
             one.replies.append(mine.ask(op))
         if one.ending == "commit" or not one.ending and source.random() < 0.5:
             after = deepcopy(states[-1])
@@ -287,14 +295,15 @@ def _micro(op: Op, reply: Reply, is_known: bool = True) -> list[Any]:
 
 def _events(made: Sequence[Made], has_times: bool) -> list[dict[str, Any]]:
     """The events of Jepsen, by time. Without times each has the place that it has there."""
-    events = []
+    events: list[tuple[float, int, int, dict[str, Any]]] = []
     for one in made:
         end = {"commit": "ok", "abort": "fail", "": "info"}[one.ending]
         asked = [_micro(op, reply, False) for op, reply in zip(one.ops, one.replies)]
         told = [_micro(op, reply) for op, reply in zip(one.ops, one.replies)] if end == "ok" else asked
         late = one.end if one.ending else 10**6
         first = {"type": "invoke", "process": one.number, "f": "txn", "value": asked, "time": one.start * 1000}
-        events += [(one.start, 0, one.number, first), (late, 1, one.number, {**first, "type": end, "value": told, "time": late * 1000})]
+        events.append((one.start, 0, one.number, first))
+        events.append((late, 1, one.number, {**first, "type": end, "value": told, "time": late * 1000}))
     found = [it for *_, it in sorted(events, key=lambda it: it[:3])]
     # Who begins when another one ends begins beside it.
     return [{**it, "index": at} for at, it in enumerate(found)] if has_times else found
@@ -323,9 +332,11 @@ def as_json(made: Sequence[Made]) -> str:
     for one in made:
         ops = [[*_words(op).split(" ")[:1], *op[1:], list(reply) if isinstance(reply, tuple) else reply]
                for op, reply in zip(one.ops, one.replies)]
-        times = {"begin": one.start, **({"end": one.end} if one.ending else {})}
+        times: dict[str, float] = {"begin": one.start, **({"end": one.end} if one.ending else {})}
         found.append({"transaction": one.number, "ending": one.ending or "unknown", "operations": ops, **times})
     return json.dumps(found, indent=1)
 
 
-FORMATS: dict[str, Callable[[Sequence[Made]], str]] = {"text": as_text, "EDN": as_edn, "JSON lines": as_json_lines, "JSON": as_json}
+FORMATS: dict[str, Callable[[Sequence[Made]], str]] = {
+    "text": as_text, "EDN": as_edn, "JSON lines": as_json_lines, "JSON": as_json,
+}

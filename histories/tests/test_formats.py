@@ -7,7 +7,7 @@ from mltx_histories import formats, text
 from mltx_histories.levels import judge
 from mltx_histories.model import Faulty
 
-# A history of Elle with comments, records, a nemesis, a transaction that failed, one whose end is not known and one without an end.
+# A history of Elle with comments, records, a nemesis, a transaction that failed, one with an unknown end, and one without an end.
 EDN = """
 ; three processes and a nemesis
 #jepsen.history.Op{:index 0, :time 10, :type :invoke, :process 0, :f :txn, :value [[:append 5 1] [:r 5 nil] [:r :k nil]]}
@@ -85,7 +85,8 @@ def test_each_format_has_the_same_operations(seed: int) -> None:
         one.end = min(one.end, 99)
     told = []
     for kind, write in small.FORMATS.items():
-        found = sorted(formats.read(write(history)), key=lambda it: (int(it.client) if "lines" in kind or kind == "EDN" else it.number))
+        by_client = kind in ("EDN", "JSON lines")
+        found = sorted(formats.read(write(history)), key=lambda it: int(it.client) if by_client else it.number)
         told.append([(one.ending, [str(it) for it in one.done]) for one in found if one.ending == "commit"])
     assert told == told[:1] * 4, small.as_text(history)
 

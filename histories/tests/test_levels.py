@@ -15,7 +15,8 @@ def made(*transactions: tuple[str, list[tuple[Op, Reply]]]) -> list[Made]:
     """Transactions beside each other, which are committed but for those that begin with `!`."""
     found = []
     for number, (ending, done) in enumerate(transactions, 1):
-        found.append(Made(number, 10, 99, {"!": "abort"}.get(ending, "commit"), [op for op, _ in done], [reply for _, reply in done]))
+        ops, replies = [op for op, _ in done], [reply for _, reply in done]
+        found.append(Made(number, 10, 99, "abort" if ending == "!" else "commit", ops, replies))
     return found
 
 
@@ -35,8 +36,7 @@ def listed(name: str, *values: int) -> tuple[Op, Reply]:
     return ("all", name), values
 
 
-# By its name each anomaly, the weakest level that it breaks, and the words that have to be told of it. Numbers of transactions are
-# counted from 1.
+# By its name each anomaly, with the weakest level that it breaks.
 STALE = made(("", [wrote("x", 1)]), ("", [got("x", None)]))
 STALE[0].start, STALE[0].end, STALE[1].start = 0, 9, 20
 PLANTED = {

@@ -46,8 +46,8 @@ def test_the_replay_refuses_wrong_replies() -> None:
 
 
 def test_writes_that_nothing_orders() -> None:
-    """Clients that write one register without a look, and read it later: in each round the last writer is the one that was read, and
-    the lines stand in the wrong order."""
+    """Clients that write one register without a look, and read it later: in each round the last writer is the one that was
+    read, and the lines stand in the wrong order."""
     lines = list[str]()
     for at in range(0, 120, 4):
         seen = at + 1
@@ -61,10 +61,12 @@ def test_writes_that_nothing_orders() -> None:
 def test_what_is_not_decided_tells_what_would_help() -> None:
     """Sixty transactions add 1, and thirty read half of it, each beside all others: nothing tells whom they saw."""
     lines = [f"begin {at}\nop {at} up 7 1 done\nop {at} up 8 1 done\ncommit {at}" for at in range(60)]
-    lines += [f"begin {at}\nop {at} read 7 is {at % 7 + 20}\nop {at} read 8 is {at % 7 + 21}\ncommit {at}" for at in range(60, 90)]
+    for at in range(60, 90):
+        lines.append(f"begin {at}\nop {at} read 7 is {at % 7 + 20}\nop {at} read 8 is {at % 7 + 21}\ncommit {at}")
     outcome = find(text.read("\n".join(lines)), False, 0.3)
     assert outcome.is_found is None
     assert outcome.told == (
-        "not decided in 0.3 seconds\n  counter 7 has amounts of which two sets have one sum, so that its replies don't tell what they saw"
+        "not decided in 0.3 seconds"
+        "\n  counter 7 has amounts of which two sets have one sum, so that its replies don't tell what they saw"
         "\n  counter 8 has amounts of which two sets have one sum, so that its replies don't tell what they saw"
         "\n  it has no times; with them it can be looked for by --strict"), outcome.told
