@@ -129,7 +129,8 @@ def table(columns: Sequence[str], rows: Iterable[Sequence[str]]) -> str:
 def of_levels(row: Row) -> Sequence[str]:
     """A row of the first table: how often each level was broken, and by what."""
     broken = [row[level] if row[level] != "0" else "-" for level in LEVELS]
-    return [row["system"], *broken, "-" if row["not decided"] == "0" else row["not decided"], row["anomalies"] or "-", row["seconds"]]
+    undecided = row["not decided"] if row["not decided"] != "0" else "-"
+    return [row["system"], *broken, undecided, row["anomalies"] or "-", row["seconds"]]
 
 
 def of_sizes(row: Row) -> Sequence[str]:

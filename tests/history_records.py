@@ -132,7 +132,8 @@ def password_of_postgres(mltx: Program) -> None:
             until_asked(lambda: postgres.Postgres(replace(server.address, user="plain", database="postgres"), "serializable"))
             for user in ("sue", "old", "plain"):
                 url = f"postgres://{user}:a%3A{user}@{server.address}/postgres"
-                same(postgres.Postgres(address_of("postgres", url), "serializable").query("SELECT current_user"), user, "the user")
+                asked = postgres.Postgres(address_of("postgres", url), "serializable")
+                same(asked.query("SELECT current_user"), user, "the user")
                 with raised(Failed, f'password authentication failed for user "{user}"'):
                     postgres.Postgres(address_of("postgres", url.replace("%3A", "")), "serializable")
             path = Address(path=f"{mltx.folder}/postgres/.s.PGSQL.{server.address.port}")
@@ -194,7 +195,8 @@ def given_process_is_killed(mltx: Program) -> None:
     """A Redis that somebody else has started is killed by its number, and started again by a command."""
     if is_there("redis", mltx.folder):
         port, pid = servers.free_port(), mltx.folder / "pid"
-        words = ["redis-server", "--bind", "127.0.0.1", "--port", port, "--dir", mltx.folder, "--appendonly", "yes", "--pidfile", pid]
+        words = ["redis-server", "--bind", "127.0.0.1", "--port", port, "--dir", mltx.folder, "--appendonly", "yes"]
+        words += ["--pidfile", pid]
         command = shlex.join(map(str, words))
         process = subprocess.Popen(shlex.split(command), stdout=subprocess.DEVNULL)
         try:

@@ -29,7 +29,7 @@ class Planned:
 
 
 class Pool:
-    """The objects of a kind that are in use, each with the number of its next write. One that has no further write is replaced."""
+    """The objects of a kind that are in use, each with the number of its next write. One without a further write is replaced."""
 
     def __init__(self, source: random.Random, writes: int, in_use: int) -> None:
         self.source, self.writes = source, writes

@@ -1,4 +1,4 @@
-"""Records: what a client writes of a transaction whose connection is lost, which is rolled back, or which is told late; the plans;
+"""Records: what a client writes of a transaction whose connection is lost, which is rolled back, or which is told late; plans;
 and what addresses and statements become."""
 import random
 from collections.abc import Sequence

@@ -3,7 +3,7 @@ themselves, as applications do: what a transaction has read it writes back chang
 import time
 from collections.abc import Callable, Sequence
 from dataclasses import dataclass
-from typing import Protocol
+from typing import Protocol, TypeVar
 
 from ..text import Cell, answer, effect
 
@@ -68,9 +68,10 @@ class Session(Protocol):
 
 
 Connect = Callable[[], Session]
+Kind = TypeVar("Kind", bound=Session)
 
 
-def patiently(connect: Connect, seconds: float) -> Session:
+def patiently(connect: Callable[[], Kind], seconds: float) -> Kind:
     """A session of a system that may come up in so many seconds."""
     until = time.monotonic() + seconds
     while True:
