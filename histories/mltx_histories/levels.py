@@ -13,13 +13,12 @@ from dataclasses import dataclass, field
 from math import inf
 
 from .committed import Placing
-from .cycles import sorted_out
 from .infer import Web
 from .model import Transaction
-from .order import Outcome, find_in, lacking
+from .order import FIRST_TRIES, Outcome, find_in, lacking
 from .reasons import Hop, cycle_in, told_of
 from .replay import replay, replay_snapshots
-from .search import Search, parts, ranked
+from .search import Search, Step, parts, ranked
 from .versions import Saturation
 
 LEVELS = ("read committed", "snapshot isolation", "serializable", "strict serializable")
@@ -86,19 +85,9 @@ def judge(transactions: Iterable[Transaction], seconds: float) -> Judged:
         members = [it.one for it in [*web.nodes, *web.lost] if it.number in fault.transactions]
         judged.is_broken(COMMITTED, Anomaly(fault.name, [f"  {fault.told}"], members))
         return judged
-    parted: Saturation | None = None
     for level in LEVELS:
-        if level == SNAPSHOT:
-            parted = Saturation(web, web.parted(), True)
-            parted.run()
-            hops = cycle_in(web, parted.links, KINDS[level], parted.more)
-        elif level == COMMITTED:
-            hops = cycle_in(web, web.whole(*KINDS[level]), KINDS[level])
-        else:
-            saturation = Saturation(web, web.whole(*KINDS[level]), False)
-            saturation.run()
-            hops = cycle_in(web, saturation.links, KINDS[level], saturation.more)
-        if hops and judged.verdicts[level] is None:
+        links = web.parted() if level == SNAPSHOT else web.whole(*KINDS[level])
+        if hops := cycle_in(web, links, KINDS[level]):
             judged.is_broken(level, _anomaly(web, hops))
             break
     for level, is_strict in ((STRICT, True), (SERIALIZABLE, False)):
@@ -110,8 +99,8 @@ def judge(transactions: Iterable[Transaction], seconds: float) -> Judged:
                 judged.holds(level if web.has_times and _keeps_time(outcome.order) or not is_strict else SERIALIZABLE)
             elif outcome.is_found is False:
                 judged.is_broken(level, _of_outcome(web, outcome))
-    if judged.verdicts[SNAPSHOT] is None and parted:
-        _snapshots(web, parted, judged, until)
+    if judged.verdicts[SNAPSHOT] is None:
+        _snapshots(web, judged, until)
     if judged.verdicts[COMMITTED] is None:
         placing = Placing(web)
         judged.verdicts[COMMITTED] = placing.run()
@@ -130,11 +119,29 @@ def _keeps_time(order: Sequence[Transaction]) -> bool:
     return True
 
 
-def _snapshots(web: Web, parted: Saturation, judged: Judged, until: float) -> None:
-    """Looks for snapshots and commits that explain all replies."""
-    nodes, links = web.nodes, parted.links
-    if len(sorted_out(links)) < len(links):
-        return
+def _snapshots(web: Web, judged: Judged, until: float) -> None:
+    """Looks for snapshots and commits that explain all replies: by a short search, else with links that follow from others."""
+    parted = Saturation(web, web.parted(), True)
+    steps, is_found = _searched(web, parted.links, until, FIRST_TRIES * len(web.nodes))
+    if not is_found:
+        parted.run(until - (until - time.monotonic()) / 2)
+        if hops := cycle_in(web, parted.links, KINDS[SNAPSHOT], parted.more):
+            judged.anomalies = {}
+            judged.is_broken(SNAPSHOT, _anomaly(web, hops))
+            return
+        if is_found is None:
+            steps, is_found = _searched(web, parted.links, until)
+    if is_found:
+        replay_snapshots([(step.node.one, step.at >= web.size) for step in steps])
+        judged.holds(SNAPSHOT)
+    elif is_found is False:
+        judged.anomalies = {}
+        judged.is_broken(SNAPSHOT, Anomaly("replies that no snapshots give", [], []))
+
+
+def _searched(web: Web, links: list[list[int]], until: float, tries: float = inf) -> tuple[list[Step], bool | None]:
+    """An order of snapshots and commits, if there is one."""
+    nodes = web.nodes
     rank = [-1.0] * len(links)
     for at, node in enumerate(nodes):
         rank[at] = node.one.start if web.has_times and node.one.start > -inf else node.one.begun
@@ -142,13 +149,8 @@ def _snapshots(web: Web, parted: Saturation, judged: Judged, until: float) -> No
     place = {at: rank for rank, at in enumerate(ranked(links, rank))}
     steps = sorted((step for at, node in enumerate(nodes) for step in parts(at, node, web.size)), key=lambda it: place[it.at])
     search = Search(steps, links, until)
-    is_found = search.run()
-    if is_found:
-        placed = [steps[at] for at in search.order]
-        replay_snapshots([(step.node.one, step.at >= web.size) for step in placed])
-        judged.holds(SNAPSHOT)
-    elif is_found is False:
-        judged.is_broken(SNAPSHOT, Anomaly("replies that no snapshots give", [], []))
+    is_found = search.run(tries)
+    return [steps[at] for at in search.order], is_found
 
 
 def _anomaly(web: Web, hops: Sequence[Hop]) -> Anomaly:

@@ -189,14 +189,16 @@ def find_in(web: Web, is_strict: bool, seconds: float, tries: int = FIRST_TRIES)
 
 def _look(web: Web, kinds: Sequence[str], until: float, tries: int) -> Outcome:
     """An order that keeps links of these kinds: by a short search, else with the links that sums make."""
-    saturation = Saturation(web, web.whole(*kinds), False)
-    saturation.run()
-    links, more = saturation.links, saturation.more
-    if hops := cycle_in(web, links, kinds, more):
+    if hops := cycle_in(web, web.whole(*kinds), kinds):
         return cyclic(web, hops)
+    saturation = Saturation(web, web.whole(*kinds), False)
+    links, more = saturation.links, saturation.more
     search = _search(web, links, until)
     is_found, fault = search.run(tries * len(web.nodes)), None
     if not is_found:
+        saturation.run(until - (until - time.monotonic()) / 2)
+        if hops := cycle_in(web, links, kinds, more):
+            return cyclic(web, hops)
         graph = Graph(web, links, more, kinds)
         fault = graph.fault(until)
         if not fault and is_found is None:

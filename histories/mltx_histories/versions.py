@@ -3,6 +3,7 @@
 If a transaction has read what one writer of a register left, each other writer comes before that one or behind the reader, and if
 a known link excludes one of these, the other holds (Tan et al., Cobra, OSDI 2020; Huang et al., PolySI, VLDB 2023). Under
 snapshot isolation, of two that change one object one ends before the other begins."""
+import time
 from collections import defaultdict
 from collections.abc import Iterator
 
@@ -37,17 +38,22 @@ class Saturation:
                 if it.cell[0] == "register" and it.seen:
                     self.registers[it.cell].append((min(it.seen), it))
 
-    def run(self) -> None:
+    def run(self, until: float) -> None:
+        """Adds links until this time at most."""
         is_needed = any(len(it) > 1 for it in self.objects.values()) or self.registers
         while is_needed and len(self.links) <= MOST_NODES and len(sorted_out(self.links)) == len(self.links):
+            if time.monotonic() > until:
+                return
             after, before = reached(self.links, self.bits), list[int]()
             if self.registers:
                 before = reached(turned(self.links), self.bits)
             known = len(self.more)
             for cell, reads in self.registers.items():
-                self._order(cell, reads, after, before)
+                if time.monotonic() < until:
+                    self._order(cell, reads, after, before)
             for cell, writers in self.objects.items():
-                self._exclude(cell, writers, after)
+                if time.monotonic() < until:
+                    self._exclude(cell, writers, after)
             if len(self.more) == known:
                 return
 
