@@ -231,5 +231,5 @@ def of_package() -> dict[str, Callable[[], object]]:
 @each(of_package(), seconds=3)
 def package(_mltx: Program, call: Callable[[], object]) -> None:
     """A test without arguments, with as many random cases as are asked for."""
-    importlib.import_module("small").CASES = harness.CASES
+    setattr(importlib.import_module("small"), "CASES", harness.CASES)
     call()

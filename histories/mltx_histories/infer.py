@@ -17,7 +17,7 @@ from functools import cached_property
 from math import inf
 from typing import NamedTuple
 
-from .model import BIG, Cell, Done, Node, Transaction, hinted
+from .model import BIG, Cell, Done, Transaction, hinted
 
 KINDS = ("ww", "wr", "rw", "time", "conflict")
 # Amounts that are no powers of two or alike are told apart where they have at most so many sums; and of so many it is told what
