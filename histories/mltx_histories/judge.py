@@ -5,11 +5,12 @@ from collections.abc import Sequence
 from pathlib import Path
 
 from . import formats, text
-from .levels import LEVELS, SERIALIZABLE, STRICT, judge
+from .levels import LEVELS, SERIALIZABLE, STRICT, Judged, judge
 from .model import Transaction
 from .order import find
-from .pictures.cli import picture_of_trace
+from .pictures.history import picture_of_history
 from .program import accepted
+from .systems import Failed
 
 # From how many transactions of a cycle they are not shown.
 MOST_SHOWN = 20
@@ -59,7 +60,17 @@ def _levels(given: argparse.Namespace, transactions: Sequence[Transaction]) -> i
     members = next((it.transactions for it in judged.anomalies.values()), ())
     if 0 < len(members) <= MOST_SHOWN:
         print("The transactions of the anomaly:", text.written(members), sep="\n", end="")
-    if given.picture and members:
-        name = next(it.name for it in judged.anomalies.values())
-        Path(given.picture).write_text(picture_of_trace(text.as_traced(text.written(members)), name))
+    if given.picture:
+        _draw(judged, Path(given.picture))
     return {True: 0, False: 1, None: 2}[judged.verdicts[given.level]]
+
+
+def _draw(judged: Judged, file: Path) -> None:
+    """Writes a picture of the transactions of the anomaly, if there is one."""
+    anomaly = next(iter(judged.anomalies.values()), None)
+    if anomaly is None:
+        print("mltx-histories: no anomaly is found, so that no picture is written", file=sys.stderr)
+    elif anomaly.transactions:
+        file.write_bytes(picture_of_history(anomaly.transactions, anomaly.name, anomaly.told).encode())
+    else:
+        raise Failed(f"no picture is written, as it is not known which transactions make this anomaly: {anomaly.name}")

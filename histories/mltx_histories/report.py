@@ -6,7 +6,7 @@ from pathlib import Path
 
 from . import text
 from .order import find
-from .pictures.cli import picture_of_trace
+from .pictures.history import picture_of_history
 from .program import accepted
 from .record import acted
 from .systems import Failed, Place, Unknown
@@ -64,7 +64,8 @@ def _shown(place: Place, system: str, scenario: Scenario, pictures: Path | None)
     """Why there is no order of what a system answers in a scenario; nothing where there is one."""
     with place.emptied(system) as connect:
         history = acted(connect, scenario.setup, scenario.steps)
-    outcome = find(text.read(history), False, SECONDS)
+    transactions = text.read(history)
+    outcome = find(transactions, False, SECONDS)
     if outcome.is_found:
         accepted(place.program, outcome.order, False)
         return ""
@@ -73,5 +74,5 @@ def _shown(place: Place, system: str, scenario: Scenario, pictures: Path | None)
     if pictures:
         pictures.mkdir(parents=True, exist_ok=True)
         name, title = f"{system}-{scenario.name}".replace(":", "-").replace(" ", "-"), f"{system}: {scenario.name}"
-        (pictures / f"{name}.svg").write_text(picture_of_trace(text.as_traced(history), title))
+        (pictures / f"{name}.svg").write_text(picture_of_history(transactions, title))
     return outcome.told

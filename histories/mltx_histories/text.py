@@ -7,8 +7,8 @@ from math import inf
 from .model import BIG, MOST, REPLIES, Cell, Done, Effect, Faulty, Need, Transaction, answer, done, effect, settled
 
 __all__ = [
-    "BIG", "MOST", "REPLIES", "Cell", "Done", "Effect", "Faulty", "Need", "Transaction", "answer", "as_traced", "base", "effect",
-    "read", "trace", "written",
+    "BIG", "MOST", "REPLIES", "Cell", "Done", "Effect", "Faulty", "Need", "Transaction", "answer", "base", "effect", "read",
+    "steps", "trace", "written",
 ]
 LINE = re.compile(
     r"begin (?P<begin>\d+)(?: by (?P<client>\S+))?(?: at (?P<start>\d+))?"
@@ -58,17 +58,31 @@ def _take(found: dict[int, Transaction], parts: dict[str, str | None], line: int
             raise Faulty(f"transaction {number} ended before it began")
 
 
+def steps(transactions: Sequence[Transaction]) -> list[tuple[Transaction, Done | str]]:
+    """The operations of these transactions, with `begin` before them and their endings, if any, behind: by the lines of the
+    history in which they stood."""
+    told: list[tuple[float, int, Transaction, Done | str]] = []
+    for at, one in enumerate(transactions):
+        told.append((one.begun, at, one, "begin"))
+        lines = one.lines or [one.line] * len(one.done)
+        told += [(max(line, one.begun), at, one, it) for line, it in zip(lines, one.done)]
+        told += [(max(one.line, one.begun), at, one, one.ending)] if one.ending else []
+    return [(one, it) for _, _, one, it in sorted(told, key=lambda it: it[:2])]
+
+
 def written(transactions: Sequence[Transaction]) -> str:
     """The history of these transactions, by the lines of the history in which they stood."""
-    told: list[tuple[float, int, str]] = []
-    for at, one in enumerate(transactions):
-        by, starts = f" by {one.client}" * bool(one.client), f" at {one.start:.0f}" * (one.start > -inf)
-        ends, order = f" at {one.end:.0f}" * (one.end < inf), f" {one.order:.0f}" * (one.order < inf)
-        told.append((one.begun, at, f"begin {one.number}{by}{starts}\n"))
-        lines = one.lines or [one.line] * len(one.done)
-        told += [(line, at, f"op {one.number} {it.asked} {it.reply}\n") for line, it in zip(lines, one.done)]
-        told += [(one.line, at, f"{one.ending} {one.number}{order}{ends}\n")] if one.ending else []
-    return "".join(line for *_, line in sorted(told, key=lambda it: it[:2]))
+    lines: list[str] = []
+    for one, it in steps(transactions):
+        if isinstance(it, Done):
+            lines.append(f"op {one.number} {it.asked} {it.reply}")
+        elif it == "begin":
+            by, starts = f" by {one.client}" * bool(one.client), f" at {one.start:.0f}" * (one.start > -inf)
+            lines.append(f"begin {one.number}{by}{starts}")
+        else:
+            ends, order = f" at {one.end:.0f}" * (one.end < inf), f" {one.order:.0f}" * (one.order < inf)
+            lines.append(f"{it} {one.number}{order}{ends}")
+    return "".join(line + "\n" for line in lines)
 
 
 def trace(transactions: Iterable[Transaction]) -> str:
@@ -89,18 +103,3 @@ def base(transactions: Iterable[Transaction]) -> str:
     rows = [(*cell, values["balance", cell[1]]) for cell in left if cell[0] == "account"]
     rows += [cell for cell in left if cell[0] == "element"] + [(*cell, values[cell]) for cell in left if cell[0] == "counter"]
     return "".join(" ".join(map(str, row)) + "\n" for row in rows)
-
-
-def as_traced(text: str) -> str:
-    """The lines of a history as a trace for a picture, in the order in which they stand there, though no order explains them."""
-    lines: list[str] = []
-    commits, undone = 0, {one.number: len(one.done) for one in read(text)}
-    for words in (line.split() for _, line in _lines(text)):
-        if words[0] == "commit":
-            commits += 1
-            lines.append(f"commit {words[1]} {commits}")
-        elif words[0] == "abort":
-            lines += [f"back {words[1]}"] * undone[int(words[1])] + [f"abort {words[1]}"]
-        else:
-            lines.append(" ".join(words if words[0] == "op" else words[:2]))
-    return "".join(line + "\n" for line in lines)

@@ -123,12 +123,6 @@ def drawn(given: Arguments, file: str) -> str:
     return page(story, title, about, given.trace, program) if given.page else picture(Scene(story), title, about)
 
 
-def picture_of_trace(text: str, title: str) -> str:
-    """The SVG of a whole trace."""
-    story = part("the trace", events.trace("the trace", text.encode()), None, None, [])
-    return picture(Scene(story), events.printable(title), ABOUT_TRACE)
-
-
 def main() -> None:
     given = arguments()
     try:

@@ -243,9 +243,9 @@ def stacked(
 
 
 def picture(scene: Scene, title: str, about: str) -> str:
-    """The whole SVG, with a title and a line about it."""
+    """The whole SVG, with a title and lines about it."""
     placed, left = rows(scene)
-    wide = max([LEAST_WIDTH, *(row.right for row in placed)])
+    wide = max([LEAST_WIDTH, legend.least_width(scene), *(row.right for row in placed)])
     wide = max(wide, MOST_WIDTH) if len(placed) > 1 else wide
     heading: list[str] = []
     drawn: list[str] = []
@@ -253,7 +253,7 @@ def picture(scene: Scene, title: str, about: str) -> str:
     for part in wrapped(title, TITLE_SIZE * 1.13, wide - 2 * MARGIN):
         heading.append(text(MARGIN, top, part, "picture"))
         top += 26
-    for part in wrapped(about, LABEL_SIZE, wide - 2 * MARGIN):
+    for part in chain.from_iterable(wrapped(it, LABEL_SIZE, wide - 2 * MARGIN) for it in about.splitlines()):
         heading.append(text(MARGIN, top - 4, part, "about"))
         top += NOTE_LINE
     drawings, between = stacked(scene, placed, left, wide, top)

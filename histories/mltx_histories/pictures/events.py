@@ -89,12 +89,14 @@ class Moment:
 
 @dataclass(frozen=True)
 class Story:
-    """All moments, the comments by their numbers, and the lines that tell of the end. In a part of a trace, commits may lack."""
+    """All moments, the comments by their numbers, and the lines that tell of the end. In a part of a trace, commits may lack.
+    A history has `reads`: by their names what is read of it, where that is no counter; its transactions have any numbers."""
 
     moments: list[Moment]
     notes: list[str]
     end: list[str]
     is_part: bool = False
+    reads: dict[str, str] | None = None
 
 
 def _lines(name: str, data: bytes, most: int = MOST_BYTES) -> Iterator[tuple[int, bytes]]:

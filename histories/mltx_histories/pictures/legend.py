@@ -20,7 +20,9 @@ ASKED = {
     "size": "asks how many are in set {}",
     "up": "adds {1} to counter {0}",
     "down": "takes {1} from counter {0}",
-    "read": "asks for counter {}",
+    "read": "asks for {kind} {}",
+    "write": "puts {1} into register {0}",
+    "append": "puts {1} behind list {0}",
 }
 # The signs in their order, with what they mean.
 SIGNS = {
@@ -55,20 +57,26 @@ def _sample(kind: str, x: float, y: int) -> list[str]:
     return [draw.sign(kind, x + SAMPLE / 2, y)]
 
 
-def asked(operation: str) -> str:
+def asked(operation: str, reads: dict[str, str] | None = None) -> str:
     """What an operation asks for, in words."""
-    name, *numbers = operation.split()
-    return ASKED[name].format(*numbers)
+    name, *words = operation.split()
+    return ASKED[name].format(*words, kind=(reads or {}).get(words[0], "counter"))
 
 
 def _operations(scene: Scene) -> Iterator[str]:
-    """The first operation of each name, with what it asks for."""
-    first: dict[str, str] = {}
+    """The first operation of each name, with what it asks for; of reads the first one of each kind."""
+    first, reads = dict[str, str](), scene.story.reads or {}
     for bar in scene.bars:
         if bar.kind == "operation":
-            first.setdefault(bar.text.split()[0], bar.text)
+            verb, name = bar.text.split()[:2]
+            first.setdefault(f"{verb} {reads.get(name)}" if verb == "read" else verb, bar.text)
     for operation in first.values():
-        yield f"`{operation}` {asked(operation)}"
+        yield f"`{operation}` {asked(operation, reads)}"
+
+
+def least_width(scene: Scene) -> float:
+    """How wide a picture is at least, so that each operation of the legend has room."""
+    return max((width(words, draw.NOTE_SIZE) + 2 * MARGIN for words in _operations(scene)), default=0)
 
 
 def drawn(scene: Scene, top: int, wide: float) -> tuple[list[str], int]:

@@ -164,7 +164,7 @@ class Scene:
         return point
 
     def _begin(self, moment: Moment, number: int) -> None:
-        if number <= self.latest:
+        if number <= self.latest and self.story.reads is None:
             self._fault(moment, f"the number is not above {self.latest}, which has begun")
         self.latest = number
         lane = self.lanes[number] = Lane(number, len(self.note_at), is_open=True)
