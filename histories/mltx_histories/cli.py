@@ -10,6 +10,7 @@ from . import judge
 from .faults import Given
 from .finding import found_program
 from .model import Faulty
+from .pictures.program import Failed as NotDrawn
 from .plan import IN_USE, KINDS
 from .record import Wanted, counted, recorded
 from .report import report
@@ -62,8 +63,15 @@ def wanted(given: argparse.Namespace) -> Wanted:
         given.kills or bool(killed), killed)
 
 
-def main() -> int:
-    given = arguments()
+def told(fault: Exception) -> str:
+    """A fault in words. One of a file has its name, and not the number that the system gives the fault."""
+    if isinstance(fault, OSError) and fault.strerror:
+        return f"{fault.filename}: {fault.strerror}" if fault.filename else fault.strerror
+    return str(fault)
+
+
+def main(words: Sequence[str] | None = None) -> int:
+    given = arguments(words)
     try:
         if given.command == "report":
             print(report(given.systems or SYSTEMS, given.program.resolve(), given.pictures), end="")
@@ -74,6 +82,6 @@ def main() -> int:
             print(f"mltx-histories: {counted(history)}", file=sys.stderr)
             return 0
         return judge.run(given)
-    except (Faulty, Failed, OSError) as fault:
-        print(f"mltx-histories: {fault}", file=sys.stderr)
+    except (Faulty, Failed, NotDrawn, OSError) as fault:
+        print(f"mltx-histories: {told(fault)}", file=sys.stderr)
         return 2

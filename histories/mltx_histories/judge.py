@@ -6,7 +6,7 @@ from pathlib import Path
 
 from . import formats, text
 from .levels import LEVELS, SERIALIZABLE, STRICT, Judged, judge
-from .model import Transaction
+from .model import Faulty, Transaction
 from .order import find
 from .pictures.history import picture_of_history
 from .program import accepted
@@ -33,9 +33,20 @@ def add_arguments(commands: "argparse._SubParsersAction[argparse.ArgumentParser]
 
 def run(given: argparse.Namespace) -> int:
     """The status: 0 where there is an order, or the level holds, 1 where not, and 2 where that is not decided."""
-    data = sys.stdin.read() if given.file == "-" else Path(given.file).read_text()
-    transactions = formats.read(data)
+    transactions = _read(given.file)
     return _levels(given, transactions) if given.command == "levels" else _order(given, transactions)
+
+
+def _read(file: str) -> list[Transaction]:
+    name, data = ("standard input", sys.stdin.buffer.read()) if file == "-" else (file, Path(file).read_bytes())
+    try:
+        return formats.read(data.decode())
+    except UnicodeDecodeError:
+        raise Faulty(f"{name} is no history, as it is no text in UTF-8") from None
+    except RecursionError:
+        raise Faulty(f"{name} has lists in lists without end") from None
+    except (ValueError, OverflowError):
+        raise Faulty(f"{name} has a number with too many digits") from None
 
 
 def _order(given: argparse.Namespace, transactions: Sequence[Transaction]) -> int:
