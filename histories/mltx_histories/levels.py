@@ -13,6 +13,7 @@ from dataclasses import dataclass, field
 from math import inf
 
 from .committed import Placing
+from .guides import guided
 from .infer import Web
 from .model import Transaction
 from .order import FIRST_TRIES, Outcome, find_in, lacking
@@ -120,9 +121,12 @@ def _keeps_time(order: Sequence[Transaction]) -> bool:
 
 
 def _snapshots(web: Web, judged: Judged, until: float) -> None:
-    """Looks for snapshots and commits that explain all replies: by a short search, else with links that follow from others."""
-    parted = Saturation(web, web.parted(), True)
-    steps, is_found = _searched(web, parted.links, until, FIRST_TRIES * len(web.nodes))
+    """Looks for snapshots and commits that explain all replies: by short searches, else with links that follow from
+    others."""
+    parted, tries = Saturation(web, web.parted(), True), FIRST_TRIES * len(web.nodes)
+    steps, is_found = _searched(web, guided(web, parted.links, web.size), until, tries)
+    if not is_found:
+        steps, is_found = _searched(web, parted.links, until, tries)
     if not is_found:
         parted.run(until - (until - time.monotonic()) / 2)
         if hops := cycle_in(web, parted.links, KINDS[SNAPSHOT], parted.more):

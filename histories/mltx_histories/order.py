@@ -11,6 +11,7 @@ from itertools import islice
 from math import inf
 
 from .cycles import reached, sorted_out, turned
+from .guides import guided
 from .infer import MOST_TOLD, Web
 from .model import BIG, Cell, Done, Need, Transaction, answer
 from .reasons import Hop, cycle_in, told_of
@@ -193,8 +194,11 @@ def _look(web: Web, kinds: Sequence[str], until: float, tries: int) -> Outcome:
         return cyclic(web, hops)
     saturation = Saturation(web, web.whole(*kinds), False)
     links, more = saturation.links, saturation.more
-    search = _search(web, links, until)
-    is_found, fault = search.run(tries * len(web.nodes)), None
+    search, fault = _search(web, links if "time" in kinds else guided(web, links, 0), until), None
+    is_found = search.run(tries * len(web.nodes))
+    if not is_found and "time" not in kinds:
+        search = _search(web, links, until)
+        is_found = search.run(tries * len(web.nodes))
     if not is_found:
         saturation.run(until - (until - time.monotonic()) / 2)
         if hops := cycle_in(web, links, kinds, more):
@@ -210,7 +214,7 @@ def _look(web: Web, kinds: Sequence[str], until: float, tries: int) -> Outcome:
 
 
 def _search(web: Web, links: list[list[int]], until: float) -> Search:
-    order = ranked(links, [at if at < len(web.nodes) else -1 for at in range(web.size)])
+    order = ranked(links, [at if at < len(web.nodes) else -1 for at in range(len(links))])
     return Search([whole(at, web.nodes[at]) for at in order if at < len(web.nodes)], links, until)
 
 
