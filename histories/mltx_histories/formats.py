@@ -11,6 +11,7 @@ from math import inf
 
 from . import text
 from .model import WITH_TWO, Done, Faulty, Transaction, done, settled
+from .unswept import unswept
 
 # A value of EDN or JSON. Keywords of EDN are texts; their colon is left out, and so is the tag of a value.
 Value = None | bool | int | float | str | list["Value"] | dict[str, "Value"]
@@ -31,6 +32,7 @@ class _Drop:
     """What `#_` makes of a value."""
 
 
+@unswept()
 def read(data: str) -> list[Transaction]:
     """The transactions of a history in any of the formats."""
     begins = re.sub(r"^(\s|;[^\n]*\n|#\s[^\n]*\n)*", "", data)

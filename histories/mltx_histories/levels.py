@@ -20,6 +20,7 @@ from .order import FIRST_TRIES, Outcome, find_in, lacking
 from .reasons import Hop, cycle_in, told_of
 from .replay import replay, replay_snapshots
 from .search import Search, Step, parts, ranked
+from .unswept import unswept
 from .versions import Saturation
 
 LEVELS = ("read committed", "snapshot isolation", "serializable", "strict serializable")
@@ -77,6 +78,7 @@ class Judged:
         return "\n".join(lines) + self.lacks * (None in self.verdicts.values())
 
 
+@unswept()
 def judge(transactions: Iterable[Transaction], seconds: float) -> Judged:
     """Judges all levels within so many seconds, of which each level that is left has its share."""
     web, judged, until = Web(transactions), Judged(), time.monotonic() + seconds

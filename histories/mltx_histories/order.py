@@ -16,6 +16,7 @@ from .infer import MOST_TOLD, Web
 from .model import BIG, Cell, Done, Need, Transaction, answer
 from .reasons import Hop, cycle_in, told_of
 from .search import Search, placed, ranked, whole
+from .unswept import unswept
 from .versions import MOST_NODES, Saturation, bits_of
 
 # A need is not looked at where more transactions than this may come before or after it, or lead to more values.
@@ -165,6 +166,7 @@ def cyclic(web: Web, hops: Sequence[Hop]) -> Outcome:
     return Outcome(False, told="\n".join([f"no order: a cycle of {len(hops)} transactions", *told_of(web, hops)]), hops=hops)
 
 
+@unswept()
 def find(transactions: Iterable[Transaction], is_strict: bool, seconds: float, tries: int = FIRST_TRIES) -> Outcome:
     """An order of the committed transactions, within so many seconds. One that keeps real time is looked for first, and before
     sums are looked at, so many states are tried for each transaction."""

@@ -5,6 +5,7 @@ from collections.abc import Iterable, Iterator, Sequence
 from math import inf
 
 from .model import BIG, MOST, REPLIES, Cell, Done, Effect, Faulty, Need, Transaction, answer, done, effect, settled
+from .unswept import unswept
 
 __all__ = [
     "BIG", "MOST", "REPLIES", "Cell", "Done", "Effect", "Faulty", "Need", "Transaction", "answer", "base", "effect", "read",
@@ -23,6 +24,7 @@ def _lines(text: str) -> Iterator[tuple[int, str]]:
     return ((at, line) for at, line in lines if line and not line.startswith("#"))
 
 
+@unswept()
 def read(text: str) -> list[Transaction]:
     """The transactions of a history."""
     found: dict[int, Transaction] = {}
