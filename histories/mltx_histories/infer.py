@@ -200,37 +200,41 @@ class Web:
 
     def _values(self) -> None:
         """Those on registers and lists, of which a reply tells values."""
-        wrote: defaultdict[tuple[Cell, str], list[tuple[int, int]]] = defaultdict(list)
+        wrote: defaultdict[Cell, defaultdict[str, list[tuple[int, int]]]] = defaultdict(lambda: defaultdict(list))
         for at, node in enumerate(self.nodes):
             for cell, left in node.left.items():
                 for place, (value, _) in enumerate(left):
-                    wrote[cell, value].append((at, place))
+                    wrote[cell][value].append((at, place))
         lost = {(cell, value): node for node in self.lost for cell, left in node.left.items() for value, _ in left}
         for at, node in enumerate(self.nodes):
             for cell, seen, own, done in node.views:
-                mine = [value for value, _ in node.left[cell]] if cell in node.left else []
+                mine = [value for value, _ in node.left[cell][:own]] if own else []
                 values = seen if isinstance(seen, tuple) else () if seen is None else (seen,)
                 told, number = f"{done} of {node.number}", (node.number,)
-                if mine[:own] if cell[0] == "register" else set(mine[:own]) - set(values):
-                    if cell[0] == "list" or seen != mine[own - 1]:
+                if mine if cell[0] == "register" else set(mine) - set(values):
+                    if cell[0] == "list" or seen != mine[-1]:
                         step = node.left[cell][own - 1][1]
                         self.strange.append((at, Fault("own write not seen", f"{told} does not see its own {step}", number)))
                     continue
-                others = [value for value in values if value not in mine[:own]]
-                sources = [[it for it in wrote.get((cell, value), ()) if it[0] != at] for value in others]
+                others, known = [value for value in values if value not in mine] if mine else [*values], wrote[cell]
+                sources = [known.get(value, []) for value in others]
+                if cell in node.left:
+                    sources = [[it for it in found if it[0] != at] for found in sources]
+                repeats = len(set(others)) < len(others)
                 for value, found in zip(others, sources):
                     if not found and (cell, value) in lost:
                         other = lost[cell, value].number
                         what = f"{told} sees {value} of {other}, which was aborted"
                         fault = Fault("G1a (aborted read)", what, (node.number, other))
-                    elif not found or others.count(value) > len(found):
+                    elif not found or repeats and others.count(value) > len(found):
                         fault = Fault("impossible read", f"{told} has {value}, which nobody wrote before", number)
                     else:
                         continue
                     self.strange.append((at, fault))
                     break
                 else:
-                    if any(len({it for it, _ in found}) > 1 or len(found) > 1 and cell[0] == "list" for found in sources):
+                    several = [found for found in sources if len(found) > 1]
+                    if any(len({it for it, _ in found}) > 1 or cell[0] == "list" for found in several):
                         what = "a value that is written twice" if cell[0] == "register" else "an element that is appended twice"
                         self.unclear.setdefault(cell, what)
                         continue

@@ -53,6 +53,8 @@ class Effect:
 
     def written(self) -> set[Cell]:
         """The objects that are changed: an account is one with its balance, and a size goes with its elements."""
+        if not self.changes:
+            return {self.left[0]} if self.left else set()
         found = {("account", cell[1]) if cell[0] == "balance" else cell for cell, change in self.changes.items() if change}
         return {cell for cell in found if cell[0] != "size"} | ({self.left[0]} if self.left else set())
 
@@ -77,6 +79,10 @@ def effect(asked: str, reply: str, kind: str = "") -> Effect:
 
 def _counted(verb: str, word: str, first: int, last: int, value: int) -> Effect:
     account, balance, counter = ("account", first), ("balance", first), ("counter", first)
+    if verb == "read":
+        return Effect((Need(counter, value, value),))
+    if verb in ("up", "down"):
+        return Effect((), {counter: last if verb == "up" else -last})
     element, size = ("element", first, last), ("size", first)
 
     def held(low: int, high: int = MOST) -> tuple[Need, ...]:
@@ -102,9 +108,6 @@ def _counted(verb: str, word: str, first: int, last: int, value: int) -> Effect:
         "has yes": Effect(inside),
         "has no": Effect(outside),
         "size is": Effect((Need(size, value, value),)),
-        "up done": Effect((), {counter: last}),
-        "down done": Effect((), {counter: -last}),
-        "read is": Effect((Need(counter, value, value),)),
     }[f"{verb} {word}"]
 
 
@@ -132,8 +135,8 @@ class Done:
 
 def done(asked: str, reply: str) -> Done:
     """An operation; that of a `read` is settled once all of the history is known."""
-    is_counted = all(it.isdecimal() for it in (*asked.split()[1:], *reply.split()[1:]))
-    return Done(asked, reply, effect(asked, reply, "register" if asked.startswith("read ") and not is_counted else ""))
+    is_value = asked.startswith("read ") and not all(it.isdecimal() for it in (*asked.split()[1:], *reply.split()[1:]))
+    return Done(asked, reply, effect(asked, reply, "register" if is_value else ""))
 
 
 @dataclass
@@ -158,7 +161,7 @@ def settled(transactions: Sequence[Transaction], kind: str = "counter") -> list[
     """The same, where each `read` is one of a register, of a list or of a counter, by what else names it; and where nothing does,
     of this kind. Raises `Faulty` where one name is of two kinds."""
     kinds: dict[str, str] = {}
-    for verb, *names in {tuple(it.asked.split()) for one in transactions for it in one.done}:
+    for verb, *names in {tuple(it.asked.split()[:2]) for one in transactions for it in one.done}:
         found = {"write": "register", "append": "list", "up": "counter", "down": "counter"}.get(verb)
         if found and kinds.setdefault(names[0], found) != found:
             raise Faulty(f"{names[0]} is both a {found} and a {kinds[names[0]]}")
@@ -166,8 +169,9 @@ def settled(transactions: Sequence[Transaction], kind: str = "counter") -> list[
     def of_kind(it: Done) -> Done:
         if not it.asked.startswith("read "):
             return it
-        known = kinds.get(it.asked.split()[1]) or (str(it.effect.seen[0][0]) if it.effect.seen else kind)
-        return it if known == "counter" and not it.effect.seen else replace(it, effect=effect(it.asked, it.reply, known))
+        mine = str(it.effect.seen[0][0]) if it.effect.seen else "counter"
+        known = kinds.get(it.asked[5:]) or (mine if it.effect.seen else kind)
+        return it if known == mine else Done(it.asked, it.reply, effect(it.asked, it.reply, known))
 
     return [replace(one, done=[of_kind(it) for it in one.done]) for one in transactions]
 

@@ -33,13 +33,13 @@ def read(text: str) -> list[Transaction]:
         try:
             if not parts:
                 raise Faulty(f"`{line}` is no line of a history")
-            _take(found, parts.groupdict(), at)
+            _take(found, parts, at)
         except Faulty as fault:
             raise Faulty(f"line {at}: {fault}") from None
     return settled([*found.values()])
 
 
-def _take(found: dict[int, Transaction], parts: dict[str, str | None], line: int) -> None:
+def _take(found: dict[int, Transaction], parts: re.Match[str], line: int) -> None:
     """Takes a line, whose parts are these."""
     number = int(parts["begin"] or parts["op"] or parts["ended"] or 0)
     if parts["begin"]:
