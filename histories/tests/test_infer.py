@@ -1,7 +1,7 @@
 """What replies tell: sums against all subsets, real time against all pairs, and how many links there are."""
 import random
 import time
-from itertools import combinations
+from itertools import combinations, product
 
 from mltx_histories import text
 from mltx_histories.cycles import reached, sorted_out
@@ -98,6 +98,42 @@ def test_levels_of_long_histories() -> None:
             if has_skew:
                 anomaly = judged.anomalies["serializable"]
                 assert (anomaly.name, [one.number for one in anomaly.transactions]) == ("write skew (G2-item)", [1000, 1001])
+
+
+def registers(count: int, is_timed: bool, is_list: bool) -> str:
+    """Transactions that read two registers or lists and write two others without a look. Many end in another order than they
+    began in; in the middle two miss each other."""
+    source, values, told = random.Random(f"{count} registers"), dict[str, list[int]](), list[tuple[int, int, str]]()
+    for now in range(1, count + 1):
+        begun, end = now * 10, now * 10 + source.randrange(1, 60)
+        names, misses, verb = source.sample(range(count // 10), 4), "", "append" if is_list else "write"
+        read, written = [f"x{it}" for it in names[:2]], [f"x{it}" for it in names[2:]]
+        if now - count // 2 in (0, 1):
+            read, end, misses = ["a", "b"], begun + 15, "a"
+            written = ["ab"[now - count // 2]]
+        seen = [[] if it == misses else values.get(it, []) for it in read]
+        replies = [f"[{' '.join(map(str, it))}]" if is_list else str(it[-1]) if it else "nil" for it in seen]
+        done = [f"read {name} is {reply}" for name, reply in zip(read, replies)]
+        for place, name in enumerate(written):
+            values[name] = [*values.get(name, []), now * 2 + place]
+            done.append(f"{verb} {name} {now * 2 + place} done")
+        times = [f" at {it}" * is_timed for it in (begun, end)]
+        told.append((begun, now, f"begin {now}{times[0]}\n" + "".join(f"op {now} {it}\n" for it in done)))
+        told.append((end, now, f"commit {now}{times[1]}\n"))
+    return "".join(lines for *_, lines in sorted(told))
+
+
+def test_levels_of_long_histories_of_registers() -> None:
+    """On a quiet machine each takes at most the seconds that are wanted; here it has three times as many."""
+    for is_timed, is_list in product((True, False), (True, False)):
+        history = registers(10_000, is_timed, is_list)
+        began = time.process_time()
+        judged = judge(text.read(history), 60)
+        took = time.process_time() - began
+        assert judged.verdicts == dict(zip(LEVELS, (True, True, False, False))), judged.told()
+        anomaly = judged.anomalies["serializable"]
+        assert (anomaly.name, [one.number for one in anomaly.transactions]) == ("write skew (G2-item)", [5000, 5001])
+        assert took < 3 * MOST_SECONDS, f"{took:.1f} s of the processor"
 
 
 def test_links_are_as_many_as_replies() -> None:
