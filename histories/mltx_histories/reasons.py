@@ -58,13 +58,19 @@ def _told(web: Web, kind: str, one: int, other: int, cell: Cell) -> Hop:
     if kind == "wr":
         read = _read(web, other, cell, lambda it: one in it.seen)
         return Hop(kind, one, other, read.cell, f"{read.done} of {b} sees {_step(web, one, read, True)} of {a}")
-    read = _read(web, one, cell, lambda it: other not in it.seen and other in web.writers[it.cell])
+    read = _read(web, one, cell, lambda it: other in web.writers[it.cell] and _misses(web, it, other))
     more = ", and both change it" * (kind == "conflict")
     return Hop(kind, one, other, read.cell, f"{read.done} of {a} does not see {_step(web, other, read, False)} of {b}{more}")
 
 
 def _read(web: Web, at: int, cell: Cell, fits: Callable[[Read], bool]) -> Read:
     return next(it for it in web.by_node[at] if cell in ((), it.cell) and fits(it))
+
+
+def _misses(web: Web, read: Read, other: int) -> bool:
+    """Whether a read has not seen a transaction, or of a list not all that it appended."""
+    left = web.nodes[other].left[read.cell] if read.cell[0] == "list" else ()
+    return other not in read.seen or any(value not in read.value for value, _ in left)
 
 
 def _step(web: Web, at: int, read: Read, sees: bool) -> Done:

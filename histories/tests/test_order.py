@@ -37,6 +37,16 @@ def is_refused(history: str) -> bool:
     return False
 
 
+def test_a_read_that_sees_a_part_of_a_transaction_is_told() -> None:
+    """Of the appends of 3 the read sees the first, and not the one behind that of 2."""
+    history = (
+        "begin 1\nop 1 read k is [6]\nop 1 read l is [5 2]\ncommit 1\nbegin 2\nop 2 append l 2 done\ncommit 2\n"
+        "begin 3\nop 3 append l 5 done\nop 3 append k 6 done\nop 3 append l 7 done\ncommit 3\n")
+    assert find(text.read(history), False, SECONDS).told.splitlines() == [
+        "no order: a cycle of 2 transactions", "  1 before 3: `read l is [5 2]` of 1 does not see `append l 7 done` of 3",
+        "  3 before 1: `read k is [6]` of 1 sees `append k 6 done` of 3"]
+
+
 def test_the_replay_refuses_wrong_replies() -> None:
     for number in range(200):
         history = small.made_up(random.Random(f"{number} of replays"), number % 2 == 0)
