@@ -340,6 +340,7 @@ def go_on(address: Address, count: int) -> int:
     with selectors.DefaultSelector() as selector:
         for _ in range(count):
             client = socket.create_connection(address, PATIENCE)
+            client.setsockopt(socket.IPPROTO_TCP, socket.TCP_NODELAY, 1)
             selector.register(client, selectors.EVENT_READ)
             client.sendall(transaction)
         while selector.get_map():
