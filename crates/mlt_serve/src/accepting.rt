@@ -35,6 +35,8 @@ pub(crate) struct Connection {
     pub(crate) queued_since: Option<Instant>,
     pub(crate) stream: Arc<TcpStream>,
     pub(crate) remains: Remains,
+    /// In which round of takes it was counted last, from 1, or 0.
+    pub(crate) round: u64,
     ghost numbered: { client ≡ before % (2 ^ 32 - 1) + 1 },
 }
 
@@ -246,6 +248,7 @@ impl<'a, R: Wait + Clock> Acceptor<'a, R> {
                 Vec::new(self.alloc),
                 now.filter(|_| parks && self.options.idle.is_some()),
             ),
+            round: 0,
         };
         match &self.destination {
             Destination::Queue(to) => match to.send(self.rt, connection) {

@@ -47,10 +47,10 @@ pub struct ServedEndless<P: Pseudo, B> {
     pub trace_failure: Option<io::Error>,
 }
 
-/// Serves connections as `serve_on` does, and keeps neither what clients were told nor what the manager did: each outcome is counted as
-/// it comes, and the history is taken out of the manager four times a second, or sooner where much is there, and is written into the
-/// trace, if there is a file for it, and then dropped. So of all that was done the server holds the objects alone; the record of a
-/// counter, and of the size of a set, stays once it was made.
+/// Serves connections as `serve_on` does, but a connection may have several sessions, one after the other. It keeps neither what clients
+/// were told nor what the manager did: each outcome is counted as it comes, and the history is taken out of the manager four times a
+/// second, or sooner where much is there, and is written into the trace, if there is a file for it, and then dropped. So of all that was
+/// done the server holds the objects alone; the record of a counter, and of the size of a set, stays once it was made.
 ///
 /// At the end as many transactions were told begun as the manager has begun, and as many told committed as it has committed, and none is
 /// open. So the manager's history, which clauses know whole, has one outcome for each transaction that it has begun: the operations of the
@@ -115,10 +115,7 @@ where
     ensures refusal { IfErr result IsOfServer }
 {
     let Ended {
-        base,
-        loaded,
-        accepting,
-        trace_failure,
+        ran,
         gathered,
         manager,
     } = serve_with::<P, Brand, Tally, R, N, T, S, F, B>(
@@ -133,14 +130,20 @@ where
         true,
         Some(poll),
     )?;
-    match tally_of(accepting, loaded, gathered, options.connections, &manager) {
+    match tally_of(
+        ran.accepting,
+        ran.loaded,
+        gathered,
+        options.connections,
+        &manager,
+    ) {
         Ok(tally) => Ok(ServedEndless {
-            base,
+            base: ran.base,
             tally,
             manager,
-            connections: accepting.connections,
-            end: accepting.end,
-            trace_failure,
+            connections: ran.accepting.connections,
+            end: ran.accepting.end,
+            trace_failure: ran.trace_failure,
         }),
         Err(refusal) => {
             manager.close();

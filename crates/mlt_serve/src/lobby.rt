@@ -226,7 +226,7 @@ impl<'a> Lobby<'a> {
         if to.send(rt, connection).is_ok() {
             self.limit.wake_one(rt);
         } else {
-            self.limit.take();
+            self.limit.leave_queue();
             self.count_ended();
             self.notes.tell(rt, Note::SessionCut(client, Cut::Memory));
         }
@@ -242,8 +242,8 @@ impl<'a> Lobby<'a> {
         let mut may_go_on = !self.limit.is_exceeded();
         for _ in rt.forever() {
             if may_go_on {
-                if let Ok(connection) = connections.try_recv(rt) {
-                    self.limit.take();
+                if let Ok(mut connection) = connections.try_recv(rt) {
+                    self.limit.take(rt, &mut connection.round);
                     return Some(connection);
                 }
             }

@@ -10,10 +10,9 @@ ghost use Rattle.mlt_trace_audit.specs.Agreement.{Agrees};
 ghost use Rattle.mlt_serve.specs.Clients.{AreNumbered, AreOfClients};
 ghost use Rattle.mlt_serve.specs.Desks.{AreGiven};
 ghost use Rattle.mlt_serve.specs.Endings.{HasAccepted, IsOfServer};
-ghost use Rattle.mlt_serve.specs.Loads.{HasLoaded};
+ghost use Rattle.mlt_serve.specs.Loads.{AreHeard, HasLoaded};
 ghost use Rattle.mlt_serve.specs.Tellings.{HaveBegun, TellsOutcomes};
 
-use crate::accepting::Accepting;
 use crate::door::Door;
 use crate::gathering::{Gathered, gather, new_threads};
 use crate::lobby::Lobby;
@@ -59,13 +58,7 @@ pub struct Served<P: Pseudo, B> {
 
 /// What became of the connections, before it is looked at whether the manager knows of it.
 pub(crate) struct Ended<P: Pseudo, K: Receipts, B> {
-    /// The base, which was loaded.
-    pub(crate) base: B,
-    /// How many connections have loaded it.
-    pub(crate) loaded: u32,
-    pub(crate) accepting: Accepting,
-    /// Why the trace was not written whole, if so.
-    pub(crate) trace_failure: Option<io::Error>,
+    pub(crate) ran: Ran<B>,
     /// What all sessions have done.
     pub(crate) gathered: Gathered<K>,
     /// The manager, with the history of all that was done and not taken out of it.
@@ -86,6 +79,78 @@ fn registry_of(poll: &Option<Poll>) -> Result<Option<Registry>, Refusal>
         },
         None => Ok(None),
     }
+}
+
+/// Loads a base by the loader and serves connections by these threads, on a manager behind this lock. What connections pass through is
+/// made here, and is gone at the end.
+///
+/// # Errors
+/// As those of `Service::run`.
+fn serve_over<P, L, K, R, N, T, S, F, B>(
+    rt: &R,
+    alloc: Global,
+    shared: &Shared<P, L>,
+    listener: &TcpListener,
+    options: &ServeOptions,
+    operating: Operating<'_, N, T, S, F>,
+    base: B,
+    loader: SessionThread<P, L, K>,
+    threads: &mut [SessionThread<P, L, K>],
+    is_endless: bool,
+    poll: Option<Poll>,
+) -> Result<(Ran<B>, SessionThread<P, L, K>), Refusal>
+where
+    P: Pseudo + Send,
+    L: MadeWith<P> + Send + Sync,
+    K: Receipts + Send + Drop,
+    R: Threads + Wait + Clock + Sync + Send + Copy + 'static,
+    N: Write + Send + Drop + 'static,
+    T: TraceFile + Send + Drop + 'static,
+    S: EndSignal + Send + Drop,
+    F: BaseFile + Send,
+    B: BaseSource + Drop,
+    requires some { 0 < length threads.old }
+    requires loader { K.receipts loader.outcomes ≡ [] }
+    requires base { B.given base ≡ [] }
+    requires endless { is_endless ≡ true → L.hands_out ≡ true }
+    requires tries { PerOperation options.now.tries ≡ L.tries }
+    ensures heard { IfOk result
+        (λ got. AreHeard 1 (B.given got.0.base) (K.receipts got.1.outcomes)) }
+    ensures over { IfOk result (λ got. B.is_over got.0.base ≡ true) }
+    ensures count { IfOk result (λ got. got.0.loaded ≡ length (B.given got.0.base)) }
+    ensures refusal { IsOkUnless result Refusal.OutOfMemory }
+{
+    let (notes, outlet) = Notes::new(alloc)?;
+    let registry = registry_of(&poll)?;
+    let door = Door::new(listener);
+    let lobby = Lobby::new(
+        alloc,
+        registry,
+        &door,
+        &notes,
+        options.idle,
+        threads.len() as u64,
+    );
+    let service = Service {
+        shared,
+        admission_queue: &session_queue(),
+        spin_policy: &SpinPolicy::new(rt),
+        options,
+        door: &door,
+        lobby: if poll.is_some() { Some(&lobby) } else { None },
+        seats: &Seats::default(),
+        notes: &notes,
+        running: &AtomicU64::new(0),
+        has_trace: operating.trace.is_some(),
+        is_endless,
+        is_loading: &AtomicBool::new(true),
+        refuses_begins: &AtomicBool::new(false),
+    };
+    let ran = service.run(rt, alloc, outlet, operating, base, loader, threads, poll);
+    let ended_there = lobby.close();
+    notes.end(rt);
+    let (ran, loader) = ran?;
+    Ok((Ran { ended_there, ..ran }, loader))
 }
 
 /// Loads a base and serves connections on a new manager, by sessions whose outcomes these receipts take. The history is taken out of it as it goes, or
@@ -144,9 +209,9 @@ where
         → HaveBegun ended.manager.shared.history.items
         (K.receipts ended.gathered.outcomes)) }
     ensures loaded { IfOk result (λ ended. ended.gathered.is_short ≡ false
-        → HasLoaded (B.given ended.base) (K.receipts ended.gathered.outcomes)) }
-    ensures over { IfOk result (λ ended. B.is_over ended.base ≡ true) }
-    ensures count { IfOk result (λ ended. ended.loaded ≡ length (B.given ended.base)) }
+        → HasLoaded (B.given ended.ran.base) (K.receipts ended.gathered.outcomes)) }
+    ensures over { IfOk result (λ ended. B.is_over ended.ran.base ≡ true) }
+    ensures count { IfOk result (λ ended. ended.ran.loaded ≡ length (B.given ended.ran.base)) }
     ensures refusal { IsOkUnless result Refusal.OutOfMemory }
 {
     let BlankRecords {
@@ -157,58 +222,29 @@ where
     let (book, mut all) = blank.open::<L>();
     let mut threads = new_threads(alloc, &mut all, &log, &mut writer, options.sessions)?;
     let loader = SessionThread::new(alloc, &mut all, &log, &mut writer);
-    let (notes, outlet) = Notes::new(alloc)?;
-    let registry = registry_of(&poll)?;
     let state = LockedState::new(alloc, options.limits, pseudo, book, writer)?;
     let shared = Shared::new(log, state);
-    let door = Door::new(listener);
-    let threads_asked = options.sessions as u64;
-    let lobby = Lobby::new(alloc, registry, &door, &notes, options.idle, threads_asked);
-    let service = Service {
-        shared: &shared,
-        admission_queue: &session_queue(),
-        spin_policy: &SpinPolicy::new(rt),
-        options,
-        door: &door,
-        lobby: if poll.is_some() { Some(&lobby) } else { None },
-        seats: &Seats::default(),
-        notes: &notes,
-        running: &AtomicU64::new(0),
-        has_trace: operating.trace.is_some(),
-        is_endless,
-        is_loading: &AtomicBool::new(true),
-        refuses_begins: &AtomicBool::new(false),
-    };
-    let ran = service.run(
+    let ran = serve_over(
         rt,
         alloc,
-        outlet,
+        &shared,
+        listener,
+        options,
         operating,
         base,
         loader,
         threads.as_mut_slice(),
+        is_endless,
         poll,
     );
-    let ended_there = lobby.close();
-    notes.end(rt);
     match ran {
-        Ok(ran) => {
-            let Ran {
-                base,
-                loaded,
-                loader,
-                accepting,
-                trace_failure,
-            } = ran;
+        Ok((ran, loader)) => {
             let mut desks = shared.unlock();
             let mut gathered = gather(alloc, &mut all, loader, threads, &mut desks);
-            gathered.connections = gathered.connections.saturating_add(ended_there);
+            gathered.connections = gathered.connections.saturating_add(ran.ended_there);
             let manager = desks.close(&mut all);
             Ok(Ended {
-                base,
-                loaded,
-                accepting,
-                trace_failure,
+                ran,
                 gathered,
                 manager,
             })
@@ -289,10 +325,7 @@ where
     ensures refusal { IfErr result IsOfServer }
 {
     let Ended {
-        base,
-        loaded,
-        accepting,
-        trace_failure,
+        ran,
         gathered,
         manager,
     } = serve_with::<P, Brand, Vec<Outcome>, R, N, T, S, F, B>(
@@ -309,19 +342,19 @@ where
     )?;
     match outcomes_of(
         alloc,
-        accepting,
-        loaded,
+        ran.accepting,
+        ran.loaded,
         gathered,
         options.connections,
         &manager,
     ) {
         Ok(outcomes) => Ok(Served {
-            base,
+            base: ran.base,
             outcomes,
             manager,
-            connections: accepting.connections,
-            end: accepting.end,
-            trace_failure,
+            connections: ran.accepting.connections,
+            end: ran.accepting.end,
+            trace_failure: ran.trace_failure,
         }),
         Err(refusal) => {
             manager.close();

@@ -120,7 +120,8 @@ impl<P: Pseudo, L: MadeWith<P>, K: Receipts + Drop> SessionThread<P, L, K> {
         ensures sees { StartsWith (first_items self.new.snapshot)
             (first_items self.old.snapshot) }
         ensures connections { self.new.connections ≡ self.old.connections }
-        ensures short { self.new.is_short ≡ self.old.is_short }
+        ensures short { self.old.is_short ≡ true → self.new.is_short ≡ true }
+        ensures memory { result ≡ Err Refusal.OutOfMemory → self.new.is_short ≡ true }
     {
         let SessionThread {
             share,
@@ -128,7 +129,7 @@ impl<P: Pseudo, L: MadeWith<P>, K: Receipts + Drop> SessionThread<P, L, K> {
             outcomes,
             connections: _,
             last,
-            is_short: _,
+            is_short,
             snapshot,
             pseudo: _,
         } = self;
@@ -154,11 +155,12 @@ impl<P: Pseudo, L: MadeWith<P>, K: Receipts + Drop> SessionThread<P, L, K> {
         *snapshot = seen;
         *events = events.saturating_add(more);
         *last = (*last).max(client);
+        *is_short = is_short_after(*is_short, ended);
         ended
     }
 
-    /// Serves a client at its seat by one session. It answers why that was cut, if it was, and what the next session of the client begins
-    /// with, if this one has left.
+    /// Serves a client at its seat by one session. It answers why that has ended before its client did, if so, and what the next session of
+    /// the client begins with, if this one has left.
     fn hold_session<R: Wait + Clock>(
         &mut self,
         rt: &R,
@@ -173,7 +175,8 @@ impl<P: Pseudo, L: MadeWith<P>, K: Receipts + Drop> SessionThread<P, L, K> {
         ensures outcomes { GrowsFor (first_items self.new.snapshot) client
             (K.receipts self.old.outcomes) (K.receipts self.new.outcomes) }
         ensures connections { self.new.connections ≡ self.old.connections }
-        ensures short { self.new.is_short ≡ false → self.old.is_short ≡ false }
+        ensures short { self.old.is_short ≡ true → self.new.is_short ≡ true }
+        ensures memory { result.0 ≡ Some Cut.Memory → self.new.is_short ≡ true }
     {
         let mut timestamp = remains.timestamp;
         let admission = service.admission(rt, seat, remains.is_to_pause);
@@ -195,9 +198,7 @@ impl<P: Pseudo, L: MadeWith<P>, K: Receipts + Drop> SessionThread<P, L, K> {
             &mut Outside::new(&socket, &admission),
         );
         let cut = cut_of(ended, socket.failure());
-        self.is_short = self.is_short || cut == Some(Cut::Memory);
-        let remains = socket.close(admission.close(), timestamp);
-        (seat.leave(rt).or(cut), remains)
+        (cut, socket.close(admission.close(), timestamp))
     }
 
     /// Serves a connection at its seat by one session. Then it is parked where that has left, and else closed with the client. One that was
@@ -213,42 +214,40 @@ impl<P: Pseudo, L: MadeWith<P>, K: Receipts + Drop> SessionThread<P, L, K> {
         ensures outcomes { GrowsFor (first_items self.new.snapshot) connection.client
             (K.receipts self.old.outcomes) (K.receipts self.new.outcomes) }
         ensures connections { self.new.connections ≤ self.old.connections + 1 }
-        ensures short { self.new.is_short ≡ false → self.old.is_short ≡ false }
+        ensures short { self.old.is_short ≡ true → self.new.is_short ≡ true }
     {
-        let Connection {
-            before,
-            client,
-            since,
-            queued_since,
-            stream,
-            remains,
-        } = connection;
-        let cut = service.cut_in_queue(&stream, remains.has_begun);
+        let mut connection = connection;
+        let client = connection.client;
+        let cut = service.cut_in_queue(&connection.stream, connection.remains.has_begun);
         if cut.is_some() {
             self.connections = self.connections.saturating_add(1);
             service.end(rt, client, cut, None);
             return;
         }
-        let Ok(handle) = stream.clone() else {
+        let Ok(handle) = connection.stream.clone() else {
             self.is_short = true;
             service.end(rt, client, None, None);
             return;
         };
-        seat.enter(rt, client, since, queued_since, handle);
-        match self.hold_session(rt, alloc, service, seat, client, &stream, remains) {
+        seat.enter(
+            rt,
+            client,
+            connection.since,
+            connection.queued_since,
+            handle,
+        );
+        let remains = mem::replace(&mut connection.remains, Remains::new(Vec::new(alloc), None));
+        let stream = &connection.stream;
+        let (cut, remains) = self.hold_session(rt, alloc, service, seat, client, stream, remains);
+        match (seat.leave(rt).or(cut), remains) {
             (None, Some(remains)) => {
-                let connection = Connection {
-                    before,
-                    client,
-                    since,
-                    queued_since: None,
-                    stream,
-                    remains,
-                };
+                connection.remains = remains;
+                connection.queued_since = None;
                 service.park(rt, connection);
             }
             (cut, _) => {
                 self.connections = self.connections.saturating_add(1);
+                let Connection { stream, .. } = connection;
                 service.end(rt, client, cut, Some(stream));
             }
         }
@@ -281,9 +280,18 @@ impl<P: Pseudo, L: MadeWith<P>, K: Receipts + Drop> SessionThread<P, L, K> {
     }
 }
 
+/// Whether a session was refused a growth, where one was before or not, and the last one has ended so.
+fn is_short_after(was_short: bool, ended: Result<Summary, Refusal>) -> bool
+    ensures before { was_short ≡ true → result ≡ true }
+    ensures memory { ended ≡ Err Refusal.OutOfMemory → result ≡ true }
+{
+    was_short || matches!(ended, Err(Refusal::OutOfMemory))
+}
+
 /// Why a session was cut that ended so, where its socket failed so, if it was cut.
 fn cut_of(ended: Result<Summary, Refusal>, failure: Option<SocketFailure>) -> Option<Cut>
     ensures memory { ended ≡ Err Refusal.OutOfMemory → result ≡ Some Cut.Memory }
+    ensures only { result ≡ Some Cut.Memory → ended ≡ Err Refusal.OutOfMemory }
     ensures line { ended ≡ Err Refusal.LineTooLong → result ≡ Some Cut.Line }
     ensures http { ended ≡ Err Refusal.Io → failure ≡ Some SocketFailure.Http
         → result ≡ Some Cut.Http }

@@ -23,20 +23,20 @@ use std::alloc::{AllocError, Global};
 use std::io::Write;
 use std::sync::atomic::Ordering;
 use std::sync::{Mutex, Wait};
-use std::thread::Threads;
+use std::thread::{Scope, Threads};
 use std::time::Clock;
 use std::{io, thread};
 
 /// What became of the base, of the connections, and of the trace.
 #[derive(Drop)]
-pub(crate) struct Ran<P: Pseudo, L: MadeWith<P>, K: Receipts, B> {
+pub(crate) struct Ran<B> {
     /// The base, which was loaded.
     pub(crate) base: B,
     /// How many connections have loaded it.
     pub(crate) loaded: u32,
-    /// What has served these.
-    pub(crate) loader: SessionThread<P, L, K>,
     pub(crate) accepting: Accepting,
+    /// How many connections have ended in the lobby.
+    pub(crate) ended_there: u64,
     /// Why the trace was not written whole, if so.
     pub(crate) trace_failure: Option<io::Error>,
 }
@@ -64,9 +64,9 @@ where
 }
 
 impl<'a, P: Pseudo + Send, L: MadeWith<P> + Send + Sync> Service<'a, P, L> {
-    /// Loads a base, and serves connections: accepts them in one thread and serves them in others, or in this one where they are refused.
-    /// Meanwhile others write notes and the trace, keep the trace or take the history out of the manager, look after the sessions, and
-    /// answer the operator. All are joined but the two that write.
+    /// Loads a base by the loader, and serves connections: accepts them in one thread and serves them in others, or in this one where they
+    /// are refused. Meanwhile others write notes and the trace, keep the trace or take the history out of the manager, look after the
+    /// sessions, and answer the operator. All are joined but the two that write.
     ///
     /// # Errors
     /// `OutOfMemory`, where the base is not loaded, or memory or one of the threads is refused that neither serve connections nor are the
@@ -89,14 +89,14 @@ impl<'a, P: Pseudo + Send, L: MadeWith<P> + Send + Sync> Service<'a, P, L> {
         loader: SessionThread<P, L, K>,
         threads: &mut [SessionThread<P, L, K>],
         poll: Option<Poll>,
-    ) -> Result<Ran<P, L, K, B>, Refusal>
+    ) -> Result<(Ran<B>, SessionThread<P, L, K>), Refusal>
         requires some { 0 < length threads.old }
         requires loader { K.receipts loader.outcomes ≡ [] }
         requires base { B.given base ≡ [] }
         ensures heard { IfOk result
-            (λ ran. AreHeard 1 (B.given ran.base) (K.receipts ran.loader.outcomes)) }
-        ensures over { IfOk result (λ ran. B.is_over ran.base ≡ true) }
-        ensures count { IfOk result (λ ran. ran.loaded ≡ length (B.given ran.base)) }
+            (λ got. AreHeard 1 (B.given got.0.base) (K.receipts got.1.outcomes)) }
+        ensures over { IfOk result (λ got. B.is_over got.0.base ≡ true) }
+        ensures count { IfOk result (λ got. got.0.loaded ≡ length (B.given got.0.base)) }
         ensures refusal { IsOkUnless result Refusal.OutOfMemory }
     {
         let Operating {
@@ -183,6 +183,86 @@ impl<'a, P: Pseudo + Send, L: MadeWith<P> + Send + Sync> Service<'a, P, L> {
         )
     }
 
+    /// Starts the threads beside those of sessions: they look after these, keep the trace and the lobby, and answer the operator. It answers
+    /// whether one was refused that has to be there: the second for the operator may be.
+    fn start_beside<
+        's,
+        'o,
+        R: Threads + Wait + Clock + Sync,
+        S: EndSignal + Send + Drop + 's,
+        F: BaseFile + Send,
+        E,
+    >(
+        &'s self,
+        rt: &'s R,
+        alloc: Global,
+        scope: &Scope<'s, E>,
+        ending: &'s DoneSignal,
+        failure: &'s Mutex<Option<io::Error>>,
+        keeper: Option<TraceKeeper<'s, 'a, P, L>>,
+        signal: S,
+        parking: Option<LobbyKeeper<'a>>,
+        operator: &'s Option<Operator<'o, 's, 'a, 'o, P, L, R, F>>,
+    ) -> bool {
+        let service = self;
+        let look = move || supervise(rt, service, ending, signal);
+        let mut is_short = scope.spawn(look).is_err();
+        if let Some(keeper) = keeper {
+            let keep = move || keeper.keep_on(rt, alloc, ending, failure);
+            is_short = scope.spawn(keep).is_err() || is_short;
+        }
+        if let Some(parking) = parking {
+            let park = move || parking.keep(rt);
+            is_short = scope.spawn(park).is_err() || is_short;
+        }
+        if let Some(operator) = operator {
+            // With two there are twice as many places for connections.
+            let answer = move || operator.answer(alloc);
+            let more = move || operator.answer(alloc);
+            is_short = scope.spawn(answer).is_err() || is_short;
+            let _ = scope.spawn(more);
+        }
+        is_short
+    }
+
+    /// Loads a base by the loader, and then accepts connections and serves them. There is nothing where the base is not loaded, or the thread
+    /// that accepts is refused.
+    fn load_and_serve<
+        K: Receipts + Send + Drop,
+        R: Threads + Wait + Clock + Sync,
+        B: BaseSource + Drop,
+    >(
+        &self,
+        rt: &R,
+        alloc: Global,
+        destination: Destination<'a>,
+        from: Receiver<Connection, Global>,
+        mut base: B,
+        mut loader: SessionThread<P, L, K>,
+        threads: &mut [SessionThread<P, L, K>],
+    ) -> Option<(Ran<B>, SessionThread<P, L, K>)>
+        requires some { 0 < length threads.old }
+        requires loader { K.receipts loader.outcomes ≡ [] }
+        requires base { B.given base ≡ [] }
+        ensures heard { IfSome result
+            (λ got. AreHeard 1 (B.given got.0.base) (K.receipts got.1.outcomes)) }
+        ensures over { IfSome result (λ got. B.is_over got.0.base ≡ true) }
+        ensures count { IfSome result (λ got. got.0.loaded ≡ length (B.given got.0.base)) }
+    {
+        let loaded = loader.load(rt, alloc, self, &mut base);
+        self.is_loading.store(false, Ordering::SeqCst);
+        let loaded = loaded?;
+        let accepting = self.accept_and_serve(rt, alloc, destination, from, threads, loaded)?;
+        let ran = Ran {
+            base,
+            loaded,
+            accepting,
+            ended_there: 0,
+            trace_failure: None,
+        };
+        Some((ran, loader))
+    }
+
     /// Loads a base and serves connections, with these threads beside those of sessions. There is nothing where the base is not loaded, or
     /// a thread or memory was refused, and nothing was accepted.
     fn serve_connections<
@@ -198,18 +278,18 @@ impl<'a, P: Pseudo + Send, L: MadeWith<P> + Send + Sync> Service<'a, P, L> {
         keeper: Option<TraceKeeper<'_, '_, P, L>>,
         signal: S,
         operator: &Option<Operator<'_, '_, '_, '_, P, L, R, F>>,
-        mut base: B,
-        mut loader: SessionThread<P, L, K>,
+        base: B,
+        loader: SessionThread<P, L, K>,
         threads: &mut [SessionThread<P, L, K>],
         poll: Option<Poll>,
-    ) -> Option<Ran<P, L, K, B>>
+    ) -> Option<(Ran<B>, SessionThread<P, L, K>)>
         requires some { 0 < length threads.old }
         requires loader { K.receipts loader.outcomes ≡ [] }
         requires base { B.given base ≡ [] }
         ensures heard { IfSome result
-            (λ ran. AreHeard 1 (B.given ran.base) (K.receipts ran.loader.outcomes)) }
-        ensures over { IfSome result (λ ran. B.is_over ran.base ≡ true) }
-        ensures count { IfSome result (λ ran. ran.loaded ≡ length (B.given ran.base)) }
+            (λ got. AreHeard 1 (B.given got.0.base) (K.receipts got.1.outcomes)) }
+        ensures over { IfSome result (λ got. B.is_over got.0.base ≡ true) }
+        ensures count { IfSome result (λ got. got.0.loaded ≡ length (B.given got.0.base)) }
     {
         let service = self;
         let ending = &DoneSignal::new();
@@ -220,49 +300,23 @@ impl<'a, P: Pseudo + Send, L: MadeWith<P> + Send + Sync> Service<'a, P, L> {
         let ran = thread::scope(
             thread::scope_env(),
             rt,
-            move |scope| -> Option<Ran<P, L, K, B>>
+            move |scope| -> Option<(Ran<B>, SessionThread<P, L, K>)>
                 requires some { 0 < length threads.now }
                 requires loader { K.receipts loader.outcomes ≡ [] }
                 requires base { B.given base ≡ [] }
                 ensures heard { IfSome result
-                    (λ ran. AreHeard 1 (B.given ran.base) (K.receipts ran.loader.outcomes)) }
-                ensures over { IfSome result (λ ran. B.is_over ran.base ≡ true) }
+                    (λ got. AreHeard 1 (B.given got.0.base) (K.receipts got.1.outcomes)) }
+                ensures over { IfSome result (λ got. B.is_over got.0.base ≡ true) }
                 ensures count { IfSome result
-                    (λ ran. ran.loaded ≡ length (B.given ran.base)) }
+                    (λ got. got.0.loaded ≡ length (B.given got.0.base)) }
             {
-                let look = move || supervise(rt, service, ending, signal);
-                let mut is_short = scope.spawn(look).is_err();
-                if let Some(keeper) = keeper {
-                    let keep = move || keeper.keep_on(rt, alloc, ending, failure);
-                    is_short = scope.spawn(keep).is_err() || is_short;
-                }
-                if let Some(parking) = parking {
-                    let park = move || parking.keep(rt);
-                    is_short = scope.spawn(park).is_err() || is_short;
-                }
-                if let Some(operator) = operator {
-                    // With two there are twice as many places for connections.
-                    let answer = move || operator.answer(alloc);
-                    let more = move || operator.answer(alloc);
-                    is_short = scope.spawn(answer).is_err() || is_short;
-                    let _ = scope.spawn(more);
-                }
-                let loaded = if is_short {
+                let is_short = service.start_beside(
+                    rt, alloc, scope, ending, failure, keeper, signal, parking, operator,
+                );
+                let ran = if is_short {
                     None
                 } else {
-                    loader.load(rt, alloc, service, &mut base)
-                };
-                service.is_loading.store(false, Ordering::SeqCst);
-                let accepting = match loaded {
-                    Some(loaded) => service.accept_and_serve(
-                        rt,
-                        alloc,
-                        destination,
-                        from,
-                        threads,
-                        loaded,
-                    ),
-                    None => None,
+                    service.load_and_serve(rt, alloc, destination, from, base, loader, threads)
                 };
                 if let Some(lobby) = service.lobby {
                     lobby.expect_no_more();
@@ -271,18 +325,17 @@ impl<'a, P: Pseudo + Send, L: MadeWith<P> + Send + Sync> Service<'a, P, L> {
                     operator.end();
                 }
                 ending.end(rt);
-                Some(Ran {
-                    base,
-                    loaded: loaded?,
-                    loader,
-                    accepting: accepting?,
-                    trace_failure: None,
-                })
+                ran
             },
         )?;
-        Some(Ran {
-            trace_failure: failed.into_inner(),
-            ..ran
-        })
+        let (ran, loader) = ran;
+        let trace_failure = failed.into_inner();
+        Some((
+            Ran {
+                trace_failure,
+                ..ran
+            },
+            loader,
+        ))
     }
 }

@@ -1,8 +1,8 @@
 //! How many session threads run at a time, and whether there are too few of them.
 
-use mlt_work_waits::tuning::{MOST_RUNNING, SHORT_FOR};
+use mlt_work_waits::tuning::{MOST_RUNNING, TAKES_PER_ROUND};
 use std::cell::Cell;
-use std::sync::atomic::{AtomicU64, Ordering};
+use std::sync::atomic::{AtomicBool, AtomicU64, Ordering};
 use std::sync::{Condvar, Mutex, Wait};
 
 /// Which sleeping threads are to go on.
@@ -25,8 +25,14 @@ pub struct ThreadLimit {
     queued: AtomicU64,
     /// How many connections threads serve.
     served: AtomicU64,
-    /// For how many more connections that are taken threads count as short.
-    short_for: AtomicU64,
+    /// Whether threads are short: more connections had something to do lately than there are threads.
+    is_short: AtomicBool,
+    /// The number of the round of takes. While threads are short each round has so many takes, one behind the other.
+    round: AtomicU64,
+    /// How many takes there were in this round.
+    takes: AtomicU64,
+    /// Of how many clients these were.
+    clients: AtomicU64,
     /// How many threads sleep.
     free: AtomicU64,
     /// How many threads run, with those that are to.
@@ -42,7 +48,10 @@ impl ThreadLimit {
             threads,
             queued: AtomicU64::new(0),
             served: AtomicU64::new(0),
-            short_for: AtomicU64::new(0),
+            is_short: AtomicBool::new(false),
+            round: AtomicU64::new(0),
+            takes: AtomicU64::new(0),
+            clients: AtomicU64::new(0),
             free: AtomicU64::new(0),
             running: AtomicU64::new(0),
             wakes: Mutex::default(),
@@ -59,18 +68,30 @@ impl ThreadLimit {
     pub fn queue(&self) {
         let queued = self.queued.fetch_add(1, Ordering::SeqCst);
         let served = self.served.load(Ordering::SeqCst);
-        if queued.saturating_add(served) >= self.threads {
-            self.short_for.store(SHORT_FOR, Ordering::Relaxed);
+        if queued.saturating_add(served) >= self.threads
+            && !self.is_short.swap(true, Ordering::SeqCst)
+        {
+            self.begin_round();
         }
     }
 
-    /// A thread has taken a connection that has waited, and serves it.
-    pub fn take(&self) {
+    /// A connection that has waited is not served.
+    pub fn leave_queue(&self) {
+        self.queued.fetch_sub(1, Ordering::SeqCst);
+    }
+
+    /// A thread has taken a connection that has waited, and serves it. Its client was last counted in this round, and is counted anew. If
+    /// threads are short no more, one goes on for each connection that waits.
+    pub fn take<R: Wait>(&self, rt: &R, last_round: &mut u64) {
         self.queued.fetch_sub(1, Ordering::SeqCst);
         self.served.fetch_add(1, Ordering::SeqCst);
-        let short_for = self.short_for.load(Ordering::Relaxed);
-        if short_for > 0 {
-            self.short_for.store(short_for - 1, Ordering::Relaxed);
+        if self.is_short() {
+            self.count(last_round);
+            if !self.is_short() {
+                for _ in 0..self.queued() {
+                    self.wake_one(rt);
+                }
+            }
         }
     }
 
@@ -81,7 +102,30 @@ impl ThreadLimit {
 
     /// Whether more connections had something to do lately than there are threads.
     fn is_short(&self) -> bool {
-        self.short_for.load(Ordering::Relaxed) > 0
+        self.is_short.load(Ordering::SeqCst)
+    }
+
+    /// Counts a take, and its client, if that was not counted in this round. At the end of a round threads are short no more if it had no
+    /// more clients than there are threads.
+    fn count(&self, last_round: &mut u64) {
+        let round = self.round.load(Ordering::SeqCst);
+        if *last_round != round {
+            *last_round = round;
+            self.clients.fetch_add(1, Ordering::SeqCst);
+        }
+        if self.takes.fetch_add(1, Ordering::SeqCst) == TAKES_PER_ROUND {
+            let clients = self.clients.load(Ordering::SeqCst);
+            self.is_short
+                .store(clients > self.threads, Ordering::SeqCst);
+            self.begin_round();
+        }
+    }
+
+    /// No take was in the next round yet.
+    fn begin_round(&self) {
+        self.round.fetch_add(1, Ordering::SeqCst);
+        self.clients.store(0, Ordering::SeqCst);
+        self.takes.store(0, Ordering::SeqCst);
     }
 
     /// A thread runs that did not.

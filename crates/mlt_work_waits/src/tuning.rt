@@ -37,8 +37,7 @@ pub const MOST_ADMITTED_SESSIONS: u64 = 3;
 /// How many sessions bypass the queue at a time. By `connections`, 64 connections of 4 threads.
 pub const MOST_BYPASSING_SESSIONS: u64 = 1;
 
-/// After how many answers a session queues: some 64 events. No row shows it: without turns, a client that asks line by line beside four
-/// that stream did 0.5 to 0.75.
+/// After how many answers a session queues: some 64 events. By `clients`, a client, a line a round trip, beside 4 that stream.
 pub const ANSWERS_PER_TURN: u32 = 16;
 
 // The pause of a session or a worker after `GaveUp`.
@@ -64,21 +63,20 @@ pub const LINGER_SECONDS: u64 = 1;
 /// OPERATING's "Clients, sessions and transactions".
 pub const SILENCE_MILLISECONDS: u64 = 20;
 
-/// How many session threads run at a time while they are short. No row shows it: with 1, 3 and 4 of them 1,000 clients with a
-/// transaction a write did 0.82 to 0.9 as many.
+/// How many session threads run at a time while they are short. By `clients`, 200 clients, a transaction a write, 10 ms between
+/// transactions.
 pub const MOST_RUNNING: u64 = 2;
 
-/// For how many connections that are taken threads count as short since more connections had something to do than there are threads: while
-/// they do, a session leaves its thread after each read. No row shows it: after that 200 clients that pause find all threads with silent
-/// clients again, and wait for up to 20 milliseconds.
-pub const SHORT_FOR: u64 = 100_000;
+/// Of how many connections that are taken in a row, while threads are short, it is counted how many clients they are of. Threads are short
+/// no more if these are no more than there are threads. By `clients`, 64 clients beside 10,000 idle ones.
+pub const TAKES_PER_ROUND: u64 = 1_024;
 
 /// How many parked connections are reported at a time. Nothing measures it.
 pub const EVENTS_PER_POLL: usize = 256;
 
 // Accepts of connections, of `mlt_serve_connections`, `mlt_serve` and `mlt_serve_admin`.
 
-/// How many connections may wait for an accept: no more than `net.core.somaxconn` of the system. Nothing measures it.
+/// How many connections may wait for an accept: no more than `net.core.somaxconn` of the system. By `clients`, 5,000 clients come at once.
 pub const BACKLOG: i32 = 4_096;
 
 /// How many milliseconds an accept pauses that failed for want of descriptors or buffers, or failed twice in a row; and for how many an
