@@ -10,14 +10,14 @@ the first did not see the second: under snapshot isolation it must end before th
 A transaction without a known end counts where one that counts has seen it. Sets of links go through nodes of their own, so
 that there are about as many as replies: of the reads of a cell each sees what the one before it saw, or two contradict."""
 from bisect import bisect_left
-from collections import defaultdict
-from collections.abc import Iterable, Sequence
+from collections import Counter, defaultdict
+from collections.abc import Iterable, Mapping, Sequence
 from dataclasses import dataclass
 from functools import cached_property
 from math import inf
 from typing import NamedTuple
 
-from .model import BIG, Cell, Done, Transaction, hinted
+from .model import BIG, Cell, Done, Node, Transaction, hinted
 
 KINDS = ("ww", "wr", "rw", "time", "conflict")
 # Amounts that are no powers of two or alike are told apart where they have at most so many sums; and of so many it is told what
@@ -205,53 +205,57 @@ class Web:
             for cell, left in node.left.items():
                 for place, (value, _) in enumerate(left):
                     wrote[cell][value].append((at, place))
+        # By cell and value its transaction, or -1 where it is not written once. Most reads are of what is.
+        once: defaultdict[Cell, defaultdict[str, int]] = defaultdict(lambda: defaultdict(lambda: -1))
+        for cell, known in wrote.items():
+            once[cell].update((value, found[0][0]) for value, found in known.items() if len(found) == 1)
         lost = {(cell, value): node for node in self.lost for cell, left in node.left.items() for value, _ in left}
         for at, node in enumerate(self.nodes):
             for cell, seen, own, done in node.views:
-                mine = [value for value, _ in node.left[cell][:own]] if own else []
+                mine = {value for value, _ in node.left[cell][:own]} if own else set[str]()
                 values = seen if isinstance(seen, tuple) else () if seen is None else (seen,)
-                told, number = f"{done} of {node.number}", (node.number,)
-                if mine if cell[0] == "register" else set(mine) - set(values):
-                    if cell[0] == "list" or seen != mine[-1]:
-                        step = node.left[cell][own - 1][1]
-                        self.strange.append((at, Fault("own write not seen", f"{told} does not see its own {step}", number)))
+                if mine and (cell[0] == "register" or not mine.issubset(values)):
+                    value, step = node.left[cell][own - 1]
+                    if cell[0] == "list" or seen != value:
+                        told = f"{done} of {node.number} does not see its own {step}"
+                        self.strange.append((at, Fault("own write not seen", told, (node.number,))))
                     continue
-                others, known = [value for value in values if value not in mine] if mine else [*values], wrote[cell]
-                sources = [known.get(value, []) for value in others]
-                if cell in node.left:
-                    sources = [[it for it in found if it[0] != at] for found in sources]
-                repeats = len(set(others)) < len(others)
-                for value, found in zip(others, sources):
-                    if not found and (cell, value) in lost:
-                        other = lost[cell, value].number
-                        what = f"{told} sees {value} of {other}, which was aborted"
-                        fault = Fault("G1a (aborted read)", what, (node.number, other))
-                    elif not found or repeats and others.count(value) > len(found):
-                        fault = Fault("impossible read", f"{told} has {value}, which nobody wrote before", number)
-                    else:
-                        continue
-                    self.strange.append((at, fault))
-                    break
-                else:
-                    several = [found for found in sources if len(found) > 1]
-                    if any(len({it for it, _ in found}) > 1 or cell[0] == "list" for found in several):
-                        what = "a value that is written twice" if cell[0] == "register" else "an element that is appended twice"
-                        self.unclear.setdefault(cell, what)
-                        continue
-                    seen_by = frozenset(found[0][0] for found in sources)
+                others = [value for value in values if value not in mine] if mine else values
+                found = frozenset(map(once[cell].__getitem__, others))
+                is_clear = found.isdisjoint((-1, at)) and len(set(others)) == len(others)
+                seen_by = found if is_clear else self._sources(at, cell, done, others, wrote[cell], lost)
+                if seen_by is not None:
                     self.reads[cell].append(Read(at, cell, done, seen_by, values))
-                    self._look_for_part(at, self.reads[cell][-1], others, sources)
+                    self._look_for_part(self.reads[cell][-1], others, wrote[cell])
 
-    def _look_for_part(self, at: int, read: Read, others: Sequence[str], sources: Sequence[Sequence[tuple[int, int]]]) -> None:
+    def _sources(self, at: int, cell: Cell, done: Done, values: Iterable[str], wrote: Mapping[str, Sequence[tuple[int, int]]],
+                 lost: Mapping[tuple[Cell, str], Node]) -> frozenset[int] | None:
+        """The others that wrote what a transaction read, or None where they are not known, or a value has none."""
+        counts, told, number = Counter(values), f"{done} of {self.nodes[at].number}", self.nodes[at].number
+        sources = {value: [it for it, _ in wrote.get(value, ()) if it != at] for value in counts}
+        for value, count in counts.items():
+            if not sources[value] and (cell, value) in lost:
+                other = lost[cell, value].number
+                what = f"{told} sees {value} of {other}, which was aborted"
+                self.strange.append((at, Fault("G1a (aborted read)", what, (number, other))))
+                return None
+            if len(sources[value]) < count:
+                self.strange.append((at, Fault("impossible read", f"{told} has {value}, which nobody wrote before", (number,))))
+                return None
+        if any(len(it if cell[0] == "list" else {*it}) > 1 for it in sources.values()):
+            what = "a value that is written twice" if cell[0] == "register" else "an element that is appended twice"
+            self.unclear.setdefault(cell, what)
+            return None
+        return frozenset(found[0] for found in sources.values())
+
+    def _look_for_part(self, read: Read, values: Sequence[str], wrote: Mapping[str, Sequence[tuple[int, int]]]) -> None:
         """The last value that was seen is the last that its transaction wrote."""
-        if sources:
-            source, place = sources[-1][-1]
-            rest = self.nodes[source].left[read.cell][place + 1:]
-            if any(value not in others for value, _ in rest):
-                one, told = self.nodes[source].number, f"{read.done} of {self.nodes[at].number}"
-                step = self.nodes[source].left[read.cell][place][1]
-                self.strange.append((at, Fault(
-                    "G1b (intermediate read)", f"{told} sees {step} of {one}, which did more", (self.nodes[at].number, one))))
+        for source, place in [it for it in wrote[values[-1]] if it[0] != read.at][-1:] if values else ():
+            left = self.nodes[source].left[read.cell]
+            if any(value not in values for value, _ in left[place + 1:]):
+                one, other = self.nodes[read.at].number, self.nodes[source].number
+                told = f"{read.done} of {one} sees {left[place][1]} of {other}, which did more"
+                self.strange.append((read.at, Fault("G1b (intermediate read)", told, (one, other))))
 
     # Links.
 
@@ -348,9 +352,8 @@ class Web:
             self.link("ww", order[-1], other, cell)
         end = self._middle("rw", cell, (), rest)
         for it in reads:
-            sources = [whose[value] for value in it.value if whose[value] != it.at]
-            if sources:
-                self.link("wr", sources[-1], it.at, cell)
+            source = next((whose[value] for value in reversed(it.value) if whose[value] != it.at), it.at)
+            self.link("wr", source, it.at, cell)
             if len(it.value) < len(order):
                 self._unseen(it, [order[len(it.value)]])
             elif it.at in rest:

@@ -8,6 +8,7 @@ from collections.abc import Callable, Iterable, Sequence
 from dataclasses import dataclass, field, replace
 from functools import cache
 from math import inf
+from sys import intern
 
 MOST, BIG = 10**18, 2**64
 # What has a number that operations change: ("account", a) is 1 where the account is there, ("balance", a) is its balance,
@@ -67,9 +68,9 @@ def effect(asked: str, reply: str, kind: str = "") -> Effect:
     if word not in REPLIES.get(verb, "").split() or len(names) != 1 + (verb in WITH_TWO) or (word == "is") != bool(told):
         raise Faulty(f"`{asked} {reply}` has no such reply")
     if verb in ("write", "append"):
-        return Effect(left=(("register" if verb == "write" else "list", names[0]), names[1]))
+        return Effect(left=(("register" if verb == "write" else "list", names[0]), intern(names[1])))
     if verb == "read" and (kind == "list" or told.startswith("[")):
-        return Effect(seen=(("list", names[0]), () if told == "nil" else tuple(told.strip("[]").split())))
+        return Effect(seen=(("list", names[0]), () if told == "nil" else tuple(map(intern, told.strip("[]").split()))))
     if verb == "read" and (kind == "register" or told == "nil"):
         return Effect(seen=(("register", names[0]), None if told == "nil" else told))
     if not all(it.isdecimal() for it in (*names, told or "0")):
@@ -135,7 +136,7 @@ class Done:
 
 def done(asked: str, reply: str) -> Done:
     """An operation; that of a `read` is settled once all of the history is known."""
-    is_value = asked.startswith("read ") and not all(it.isdecimal() for it in (*asked.split()[1:], *reply.split()[1:]))
+    is_value = asked.startswith("read ") and not (asked[5:] + reply[3:]).isdecimal()
     return Done(asked, reply, effect(asked, reply, "register" if is_value else ""))
 
 

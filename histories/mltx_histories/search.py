@@ -154,10 +154,10 @@ class Search:
             at += 1
 
     def _count(self, step: Step, times: int) -> None:
-        for pair in step.views.items() if step.is_wanted else ():
-            self.readers[pair] += times
-        for pair in step.left.items():
-            self.sources[pair] += times
+        for counter, pairs in (self.readers, step.views if step.is_wanted else {}), (self.sources, step.left):
+            for cell, value in pairs.items():
+                if cell[0] == "register":
+                    counter[cell, value] += times
 
     def _buries(self, step: Step) -> bool:
         """Whether it overwrites what another one has still to read, and nobody writes again."""
