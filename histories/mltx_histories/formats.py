@@ -7,6 +7,7 @@ JSON of our own has an object for each transaction."""
 import json
 import re
 from collections.abc import Iterable, Iterator, Sequence
+from functools import cache
 from math import inf
 
 from . import text
@@ -15,7 +16,13 @@ from .unswept import unswept
 
 # A value of EDN or JSON. Keywords of EDN are texts; their colon is left out, and so is the tag of a value.
 Value = None | bool | int | float | str | list["Value"] | dict[str, "Value"]
-TOKEN = re.compile(r'[\s,]+|;[^\n]*|(#_|#\{|[\[\](){}])|("(?:[^"\\]|\\.)*")|(\\\S[\w]*)|(#?[^\s,;\[\](){}"]+)')
+Tokens = Iterator[re.Match[str]]
+# What stands before a token of EDN, and the token: numbers in brackets, a mark, a text, a character, a word, or none of these.
+TOKEN = re.compile(
+    r'(?:[\s,]++|;[^\n]*+)*+'
+    r'(?:(\[(?:[\s,]*+-?\d++(?=[\s,\]]))*+[\s,]*+\])|(#_|#\{|[\[\](){}])|("(?:[^"\\]|\\.)*+")|(\\\S\w*)'
+    r'|(#?[^\s,;\[\](){}"]+)|(.)|\Z)')
+NUMBERS, MARK, TEXT, CHARACTER, WORD = range(1, 6)
 CLOSING = {"[": "]", "(": ")", "{": "}", "#{": "}"}
 SHORT = {"r": "read", "w": "write", "inc": "up"}
 # What our own operations are answered where nothing else is said.
@@ -62,43 +69,41 @@ def _json(data: str) -> Iterator[Value]:
 
 def edn(data: str) -> Iterator[Value]:
     """The values of a text of EDN."""
-    tokens = _tokens(data)
-    for kind, token, line in tokens:
-        value = _value(kind, token, line, tokens)
+    tokens = (it for it in TOKEN.finditer(data) if it.lastindex)
+    for found in tokens:
+        value = _value(found, tokens)
         if not isinstance(value, _Drop):
             yield value
 
 
-def _tokens(data: str) -> Iterator[tuple[int, str, int]]:
-    """Each token with its group and line."""
-    at = line = 0
-    while at < len(data):
-        found = TOKEN.match(data, at)
-        if not found:
-            raise Faulty(f"line {line + 1}: no EDN: {data[at:at + 20]!r}")
-        if found.lastindex:
-            yield found.lastindex, found[0], line + 1
-        line += data.count("\n", at, found.end())
-        at = found.end()
+def _fault(found: re.Match[str], why: str) -> Faulty:
+    return Faulty(f"line {found.string.count(chr(10), 0, found.end()) + 1}: no EDN: {why}")
 
 
-def _value(kind: int, token: str, line: int, tokens: Iterator[tuple[int, str, int]]) -> "Value | _Drop":
-    if kind == 2:
+def _value(found: re.Match[str], tokens: Tokens) -> "Value | _Drop":
+    kind = found.lastindex or 0
+    token = found[kind]
+    if kind == WORD:
+        return _next(found, tokens) if token[0] == "#" and token[1:2] != "#" else _of_word(token)
+    if kind == NUMBERS:
+        return [*map(int, token[1:-1].replace(",", " ").split())]
+    if kind == TEXT:
         try:
             return str(json.loads(token, strict=False))
         except ValueError:
             return token[1:-1]
-    if kind == 3:
+    if kind == CHARACTER:
         return token
-    if kind == 1 and token == "#_":
-        _next(line, tokens)
+    if token == "#_":
+        _next(found, tokens)
         return _Drop()
-    if kind == 1 and token in CLOSING:
-        return _collection(token, line, tokens)
-    if kind == 1:
-        raise Faulty(f"line {line}: no EDN: `{token}` closes nothing")
-    if token.startswith("#") and not token.startswith("##"):
-        return _next(line, tokens)
+    if token in CLOSING:
+        return _collection(found, tokens)
+    raise _fault(found, f"`{token}` closes nothing" if kind == MARK else f"`{token}` is not closed")
+
+
+@cache
+def _of_word(token: str) -> Value:
     if token.startswith(":"):
         return _Keyword(token[1:])
     if re.fullmatch(r"[+-]?\d+N?", token):
@@ -108,27 +113,27 @@ def _value(kind: int, token: str, line: int, tokens: Iterator[tuple[int, str, in
     return {"nil": None, "true": True, "false": False}.get(token, _Keyword(token))
 
 
-def _next(line: int, tokens: Iterator[tuple[int, str, int]]) -> Value:
-    for kind, token, at in tokens:
-        value = _value(kind, token, at, tokens)
+def _next(before: re.Match[str], tokens: Tokens) -> Value:
+    for found in tokens:
+        value = _value(found, tokens)
         if not isinstance(value, _Drop):
             return value
-    raise Faulty(f"line {line}: no EDN: something is missing at the end")
+    raise _fault(before, "something is missing at the end")
 
 
-def _collection(opening: str, line: int, tokens: Iterator[tuple[int, str, int]]) -> Value:
-    items: list[Value] = []
-    for kind, token, at in tokens:
-        if kind == 1 and token == CLOSING[opening]:
-            if opening != "{":
+def _collection(opening: re.Match[str], tokens: Tokens) -> Value:
+    items, mark = list[Value](), opening[MARK]
+    for found in tokens:
+        if found[MARK] == CLOSING[mark]:
+            if mark != "{":
                 return items
             if len(items) % 2:
-                raise Faulty(f"line {line}: no EDN: a map has a key without a value")
+                raise _fault(opening, "a map has a key without a value")
             return {_word(key): value for key, value in zip(items[::2], items[1::2])}
-        value = _value(kind, token, at, tokens)
+        value = _value(found, tokens)
         if not isinstance(value, _Drop):
             items.append(value)
-    raise Faulty(f"line {line}: no EDN: `{opening}` is not closed")
+    raise _fault(opening, f"`{mark}` is not closed")
 
 
 def _word(value: Value) -> str:
@@ -138,6 +143,12 @@ def _word(value: Value) -> str:
     if isinstance(value, int) and not isinstance(value, bool):
         return str(value)
     return re.sub(r"[\s\[\]]", lambda it: f"\\u{ord(it[0]):04x}", json.dumps(value, separators=(",", ":"), sort_keys=True))
+
+
+def _words(values: Sequence[Value]) -> str:
+    if {*map(type, values)} <= {int}:
+        return " ".join(map(str, values))
+    return " ".join(map(_word, values))
 
 
 def _done(micro: Value, is_known: bool) -> Done | None:
@@ -156,7 +167,7 @@ def _done(micro: Value, is_known: bool) -> Done | None:
     if verb == "read" and (not more or more[0] is None):
         return done(asked, "is nil")
     if verb == "read" and isinstance(more[0], list):
-        return done(asked, f"is [{' '.join(map(_word, more[0]))}]")
+        return done(asked, f"is [{_words(more[0])}]")
     reply = _word(more[0]) if more else ""
     return done(asked, reply if re.fullmatch("[a-z]+", reply) and verb != "read" else f"is {reply}")
 
