@@ -124,7 +124,8 @@ def postgres(folder: Path) -> Server:
     initdb, server = programs(POSTGRES)
     data, port = folder / "data", free_port()
     _made("postgres", folder, [initdb, "--pgdata", data, "--username", "postgres", "--auth", "trust", "--no-sync", "--no-locale"])
-    settings = {"fsync": "off", "full_page_writes": "off", "unix_socket_directories": folder, "max_connections": 200}
+    settings = {"fsync": "off", "full_page_writes": "off", "unix_socket_directories": folder, "max_connections": 200,
+                "deadlock_timeout": "20ms"}
     options = [word for name, value in settings.items() for word in ("-c", f"{name}={value}")]
     words = [server, "-D", data, "-h", LOCAL, "-p", port, *options]
     return Server(words, "postgres", folder, Address(LOCAL, port, user="postgres"))
