@@ -19,7 +19,7 @@ from harness import ROOT, Program, each, expect, holds, same, test
 from histories import found, order, run
 
 sys.path.insert(0, str(ROOT / "histories"))
-from mltx_histories import cli, plan, text  # noqa: E402
+from mltx_histories import cli, model, plan, text  # noqa: E402
 from mltx_histories.program import CHECKED, NOT_PROVED, REPLAYED  # noqa: E402
 from mltx_histories.systems import SYSTEMS, Address, Connect, Failed, address_of, mysql, postgres, redis, servers  # noqa: E402
 from mltx_histories.systems.base import START, patiently  # noqa: E402
@@ -76,16 +76,16 @@ def shown(mltx: Program, system: str) -> None:
 def values_tell_what_was_seen(_mltx: Program, data: str) -> None:
     """No two sets of the changes of a cell come to one value; no register gets a value twice, and no list an element."""
     before, drawn = plan.planned(data, 1, 3000)
-    totals, given = defaultdict[text.Cell, list[int]](list), defaultdict[str, list[str]](list)
+    totals, given = defaultdict[model.Cell, list[int]](list), defaultdict[str, list[str]](list)
     for one in [*before, *drawn]:
-        changes = defaultdict[text.Cell, int](int)
+        changes = defaultdict[model.Cell, int](int)
         for asked in one.asked:
             verb, *words = asked.split()
             if verb in ("write", "append"):
                 given[words[0]].append(words[1])
             elif data == "objects":
                 reply = {"open": "opened", "add": "added", "has": "no"}.get(verb, "is 0" if len(words) == 1 else "done")
-                for cell, change in text.effect(asked, reply).changes.items():
+                for cell, change in model.effect(asked, reply).changes.items():
                     changes[cell] += change
         for cell, change in changes.items():
             totals[cell].append(change)
@@ -94,7 +94,7 @@ def values_tell_what_was_seen(_mltx: Program, data: str) -> None:
         for size in sorted(abs(change) for change in found_changes):
             holds(size > least, f"the changes of {cell}: {found_changes}")
             least += size
-        holds(least < text.BIG, f"the changes of {cell}")
+        holds(least < model.BIG, f"the changes of {cell}")
     holds(all(len(set(values)) == len(values) for values in given.values()), "a value is given twice")
     holds(sum(it.ending == "abort" for it in drawn) > 200, "some are aborted")
 

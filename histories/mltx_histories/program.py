@@ -6,8 +6,9 @@ from math import inf
 from pathlib import Path
 
 from . import replay
+from .model import Transaction
 from .systems.base import Failed
-from .text import Transaction, base, trace
+from .text import base, trace
 
 # Who accepts an order.
 CHECKED, NOT_PROVED, REPLAYED = "which mltx check accepts", "; this mltx is not proved", "which a replay accepts"

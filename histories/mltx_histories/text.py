@@ -4,13 +4,9 @@ from collections import defaultdict
 from collections.abc import Iterable, Iterator, Sequence
 from math import inf
 
-from .model import BIG, MOST, REPLIES, Cell, Done, Effect, Faulty, Need, Transaction, answer, done, effect, settled
+from .model import BIG, Cell, Done, Faulty, Transaction, done, settled
 from .unswept import unswept
 
-__all__ = [
-    "BIG", "MOST", "REPLIES", "Cell", "Done", "Effect", "Faulty", "Need", "Transaction", "answer", "base", "effect", "read",
-    "steps", "trace", "written",
-]
 LINE = re.compile(
     r"begin (?P<begin>\d+)(?: by (?P<client>\S+))?(?: at (?P<start>\d+))?"
     r"|op (?P<op>\d+) (?P<asked>[a-z]+ [^ \[\]]+(?: (?!is )[^ \[\]]+)?) (?P<reply>is \[[^\[\]]*\]|is [^ \[\]]+|[a-z]+)"

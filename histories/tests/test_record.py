@@ -7,6 +7,7 @@ from itertools import count
 from cases import cases
 from mltx_histories import plan, text
 from mltx_histories.levels import judge
+from mltx_histories.model import Done
 from mltx_histories.record import Client
 from mltx_histories.replay import Database
 from mltx_histories.systems import Address, Failed, Lost, RolledBack, Session, address_of, named
@@ -54,7 +55,7 @@ class Shaky(Session):
         pass
 
 
-def _done(asked: str, reply: str) -> text.Done:
+def _done(asked: str, reply: str) -> Done:
     """An operation, whose kind `read` takes from its reply; counters are read here."""
     verb, *words = asked.split()
     usual = {"open": "opened", "add": "added", "has": "no", "size": "is 0", "read": "is 0", "balance": "is 0"}.get(verb, "done")

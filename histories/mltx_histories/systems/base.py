@@ -5,7 +5,7 @@ from collections.abc import Callable, Sequence
 from dataclasses import dataclass
 from typing import Protocol, TypeVar
 
-from ..text import Cell, answer, effect
+from ..model import Cell, answer, effect
 
 # How long a client waits for an answer, in seconds.
 PATIENCE = 60

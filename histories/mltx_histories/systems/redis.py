@@ -3,7 +3,7 @@ from collections import Counter
 from collections.abc import Sequence
 from typing import Any
 
-from ..text import Cell
+from ..model import Cell
 from .base import Address, Failed, Lost, RolledBack, Values
 from .stream import Stream
 

@@ -3,7 +3,7 @@ import sqlite3
 from pathlib import Path
 from typing import Protocol
 
-from ..text import Cell
+from ..model import Cell
 from .base import PATIENCE, Failed, RolledBack, Values
 
 # The tables, whose names no application has.
