@@ -2,6 +2,7 @@
 and what addresses and statements become."""
 import random
 from collections.abc import Sequence
+from functools import partial
 from itertools import count
 
 from cases import cases
@@ -10,7 +11,7 @@ from mltx_histories.levels import judge
 from mltx_histories.model import Done
 from mltx_histories.record import Client
 from mltx_histories.replay import Database
-from mltx_histories.systems import Address, Failed, Lost, RolledBack, Session, address_of, named
+from mltx_histories.systems import Address, Failed, Lost, RolledBack, Session, address_of, cleared, named, patiently
 from mltx_histories.systems.mysql import MySql
 
 # What happens at one of so many lines.
@@ -134,6 +135,28 @@ def test_plans_use_each_value_once(seed: int) -> None:
                 group = "account" if verb in ("withdraw", "deposit") else verb
                 assert (group, *words) not in written, f"{asked} comes twice"
                 written.add((group, words[0], words[1]))
+
+
+class Loading(Shaky):
+    """A session of a system that comes up."""
+
+    def __init__(self, is_up: bool) -> None:
+        super().__init__(random.Random(1), [], True)
+        self.is_up, self.is_closed = is_up, False
+
+    def clear(self) -> None:
+        if not self.is_up:
+            raise Lost("it is loading")
+
+    def close(self) -> None:
+        self.is_closed = True
+
+
+def test_a_system_that_comes_up_is_cleared_by_a_later_session() -> None:
+    sessions = [Loading(False), Loading(False), Loading(True)]
+    left = iter(sessions)
+    assert patiently(partial(cleared, lambda: next(left)), 9) is sessions[2]
+    assert [it.is_closed for it in sessions] == [True, True, False]
 
 
 def test_addresses() -> None:

@@ -1,7 +1,7 @@
 """The systems of which histories are recorded: their names and levels, and where they are."""
 import tempfile
 from collections.abc import Iterator
-from contextlib import ExitStack, closing, contextmanager
+from contextlib import ExitStack, contextmanager
 from functools import partial
 from pathlib import Path
 from urllib.parse import unquote, urlsplit
@@ -13,7 +13,7 @@ from .sql import Sqlite
 
 __all__ = [
     "Address", "Connect", "Failed", "LEVELS", "Lost", "OTHERS", "Place", "RolledBack", "SYSTEMS", "Session", "Unknown", "Values",
-    "address_of", "named", "patiently",
+    "address_of", "cleared", "named", "patiently",
 ]
 
 # The levels of each kind of system, of which the last is the strongest. A program that answers lines has none that is known.
@@ -80,6 +80,17 @@ def _connected(kind: str, level: str, address: Address, folder: Path, command: s
     return Lines(command) if kind == "lines" else Mltx(address)
 
 
+def cleared(connect: Connect) -> Session:
+    """A session that has taken away what earlier recordings have left. A Redis that is still loading refuses that."""
+    session = connect()
+    try:
+        session.clear()
+    except Lost:
+        session.close()
+        raise
+    return session
+
+
 class Place:
     """Where servers run, each from its first use on until the block ends."""
 
@@ -117,6 +128,5 @@ class Place:
         if address is None and kind not in ("sqlite", "lines"):
             address = self.server(kind).address
         connect = partial(connected, kind, level, address or Address(), self.folder, command, data)
-        with closing(patiently(connect, 0 if address_is_given else START)) as first:
-            first.clear()
+        patiently(partial(cleared, connect), 0 if address_is_given else START).close()
         yield connect
