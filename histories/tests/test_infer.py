@@ -2,8 +2,7 @@
 import random
 import time
 from collections import defaultdict
-from collections.abc import Callable
-from itertools import combinations, product
+from itertools import combinations
 
 from mltx_histories import formats, text
 from mltx_histories.cycles import reached, sorted_out
@@ -138,23 +137,28 @@ def in_edn(history: str) -> str:
     return "".join(events)
 
 
+def check_soon(history: str, what: str) -> None:
+    """The two are found in twice the seconds that are wanted, as the machine may be slow or busy."""
+    began = time.process_time()
+    judged = judge(formats.read(history), 60)
+    took = time.process_time() - began
+    assert judged.verdicts == dict(zip(LEVELS, (True, True, False, False))), f"{what}: {judged.told()}"
+    anomaly = judged.anomalies["serializable"]
+    members = [one.client or str(one.number) for one in anomaly.transactions]
+    assert (anomaly.name, members) == ("write skew (G2-item)", ["5000", "5001"]), f"{what}: {judged.told()}"
+    assert took < 2 * MOST_SECONDS, f"{what}: {took:.1f} s of the processor"
+
+
 def test_levels_of_long_histories_of_registers() -> None:
-    """Of registers, of lists of which a read has 10 elements, and of lists of which it has 80. Here each has twice the seconds
-    that are wanted, for a machine that is slow or busy."""
-    kinds = {"registers": (1_000, False), "lists": (1_000, True), "long lists": (125, True)}
-    forms: dict[str, tuple[bool, Callable[[str], str]]] = {
-        "times": (True, str), "no times": (False, str), "EDN": (True, in_edn),
-    }
-    for (kind, (names, is_list)), (form, (is_timed, write)) in product(kinds.items(), forms.items()):
-        history = write(registers(10_000, names, is_timed, is_list))
-        began = time.process_time()
-        judged = judge(formats.read(history), 60)
-        took = time.process_time() - began
-        assert judged.verdicts == dict(zip(LEVELS, (True, True, False, False))), f"{kind}, {form}: {judged.told()}"
-        anomaly = judged.anomalies["serializable"]
-        members = [one.client or str(one.number) for one in anomaly.transactions]
-        assert (anomaly.name, members) == ("write skew (G2-item)", ["5000", "5001"]), f"{kind}, {form}: {judged.told()}"
-        assert took < 2 * MOST_SECONDS, f"{kind}, {form}: {took:.1f} s of the processor"
+    check_soon(registers(10_000, 1_000, True, False), "times")
+    check_soon(registers(10_000, 1_000, False, False), "no times")
+
+
+def test_levels_of_long_histories_of_long_lists() -> None:
+    """A read has 80 elements, as most lists get 160."""
+    check_soon(registers(10_000, 125, True, True), "times")
+    check_soon(registers(10_000, 125, False, True), "no times")
+    check_soon(in_edn(registers(10_000, 125, True, True)), "EDN")
 
 
 def test_links_are_as_many_as_replies() -> None:
