@@ -12,7 +12,7 @@ use mlt_types::{PageNo, Refusal};
 /// depth 0, and the header, whose number it answers.
 ///
 /// # Errors
-/// `OutOfMemory`, where a growth was refused.
+/// `OutOfMemory`, where room for a page or a growth was refused.
 pub fn open_file(store: &mut Store) -> Result<PageNo, Refusal>
     requires no_page { store.old.pages ≡ map.empty }
     requires room { 3 ≤ store.old.max_pages }
@@ -23,7 +23,9 @@ pub fn open_file(store: &mut Store) -> Result<PageNo, Refusal>
     ensures refusal { IsOkUnless result Refusal.OutOfMemory }
 {
     let bucket = store.grow(Page::Bucket(Bucket::empty(0)))?;
-    let dir = store.grow(Page::Dir(DirPage::new(bucket)))?;
-    let head = store.grow(Page::Head(HeadPage::new(dir)))?;
+    let listed = store.dir_page(DirPage::new(bucket))?;
+    let dir = store.grow(listed)?;
+    let header = store.head_page(HeadPage::new(dir))?;
+    let head = store.grow(header)?;
     Ok(head)
 }

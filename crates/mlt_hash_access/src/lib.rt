@@ -19,8 +19,8 @@ pub use clean_laws::{
 pub use locked_store::LockedStore;
 pub use others_laws::{others_leave_the_view, others_leave_what_was_written};
 pub use pages::{
-    lock, make_page, read_held, read_held_bucket, read_held_dir, read_held_head, write_held,
-    write_slot,
+    lock, make_dir_page, make_page, read_held, read_held_bucket, read_held_dir, read_held_head,
+    write_held, write_held_dir, write_held_head, write_slot,
 };
 pub use view_laws::{
     own_steps_see_more, rebased_views_agree_with_what_was_written, rebased_views_step_alike,

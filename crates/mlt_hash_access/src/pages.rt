@@ -66,7 +66,7 @@ pub fn read_held_head<'a>(subtx: &Subtx, pages: &'a LockedStore, number: PageNo)
         ReadsHeldPage view number (page.Head result.now) }
 {
     match read_held(subtx, pages, number) {
-        Page::Head(head) => head,
+        Page::Head(head) => head.get(),
         Page::Dir(_) | Page::Bucket(_) => unreachable!(),
     }
 }
@@ -80,7 +80,7 @@ pub fn read_held_dir<'a>(subtx: &Subtx, pages: &'a LockedStore, number: PageNo) 
         ReadsHeldPage view number (page.Dir result.now) }
 {
     match read_held(subtx, pages, number) {
-        Page::Dir(dir) => dir,
+        Page::Dir(dir) => dir.get(),
         Page::Head(_) | Page::Bucket(_) => unreachable!(),
     }
 }
@@ -123,6 +123,54 @@ pub fn write_held(
     ensures refusal { IsOkUnless result Refusal.OutOfMemory }
 {
     subtx.write(&mut pages.store, number, page)
+}
+
+/// Writes a page of the directory that is held exclusively.
+///
+/// # Errors
+/// `OutOfMemory`, where room for the page or a growth was refused. Then nothing has changed.
+pub fn write_held_dir(
+    subtx: &mut Subtx,
+    pages: &mut LockedStore,
+    number: PageNo,
+    dir: DirPage,
+) -> Result<(), Refusal>
+    requires may { MayStep (local subtx.old pages.old) }
+    requires held { can_write pages.old.locks subtx.old.tx number ≡ true }
+    ensures writes { let new = local subtx.new pages.new in
+        OnOk result (WritesHeldPage (local subtx.old pages.old) new number (page.Dir dir)) }
+    ensures view { let new = view_of (local subtx.new pages.new) in
+        OnOk result (WritesPage (view_of (local subtx.old pages.old)) new number (page.Dir dir)) }
+    ensures leaves { Leaves (local subtx.old pages.old) (local subtx.new pages.new) }
+    ensures err { OnErr result ((subtx.new ≡ subtx.old) × (pages.new ≡ pages.old)) }
+    ensures refusal { IsOkUnless result Refusal.OutOfMemory }
+{
+    let page = pages.store.dir_page(dir)?;
+    write_held(subtx, pages, number, page)
+}
+
+/// Writes the header, which is held exclusively.
+///
+/// # Errors
+/// `OutOfMemory`, where room for the page or a growth was refused. Then nothing has changed.
+pub fn write_held_head(
+    subtx: &mut Subtx,
+    pages: &mut LockedStore,
+    number: PageNo,
+    head: HeadPage,
+) -> Result<(), Refusal>
+    requires may { MayStep (local subtx.old pages.old) }
+    requires held { can_write pages.old.locks subtx.old.tx number ≡ true }
+    ensures writes { let new = local subtx.new pages.new in
+        OnOk result (WritesHeldPage (local subtx.old pages.old) new number (page.Head head)) }
+    ensures view { let new = view_of (local subtx.new pages.new) in
+        OnOk result (WritesPage (view_of (local subtx.old pages.old)) new number (page.Head head)) }
+    ensures leaves { Leaves (local subtx.old pages.old) (local subtx.new pages.new) }
+    ensures err { OnErr result ((subtx.new ≡ subtx.old) × (pages.new ≡ pages.old)) }
+    ensures refusal { IsOkUnless result Refusal.OutOfMemory }
+{
+    let page = pages.store.head_page(head)?;
+    write_held(subtx, pages, number, page)
 }
 
 /// Sets one slot of a bucket that is held exclusively.
@@ -177,4 +225,36 @@ pub fn make_page(subtx: &mut Subtx, pages: &mut LockedStore, page: Page) -> Resu
         (refusal ≡ Refusal.NoRoom) ⊎ (refusal ≡ Refusal.OutOfMemory)) }
 {
     subtx.grow(&mut pages.store, &mut pages.locks, page)
+}
+
+/// Makes a page of the directory and locks it exclusively.
+///
+/// # Errors
+/// `NoRoom` exactly where the store has as many pages as it may have; else `OutOfMemory`, where room for the page or a
+/// growth was refused. Then nothing has changed.
+pub fn make_dir_page(
+    subtx: &mut Subtx,
+    pages: &mut LockedStore,
+    dir: DirPage,
+) -> Result<PageNo, Refusal>
+    requires may { MayStep (local subtx.old pages.old) }
+    requires few { page_count pages.old.locks subtx.old.tx < 300 }
+    ensures makes { let new = local subtx.new pages.new in
+        IfOk result (λ number.
+        MakesLockedPage (local subtx.old pages.old) new number (page.Dir dir)) }
+    ensures view { let new = view_of (local subtx.new pages.new) in
+        IfOk result (λ number.
+        MakesPage (view_of (local subtx.old pages.old)) new number (page.Dir dir)) }
+    ensures leaves { Leaves (local subtx.old pages.old) (local subtx.new pages.new) }
+    ensures err { OnErr result ((subtx.new ≡ subtx.old) × (pages.new ≡ pages.old)) }
+    ensures no_room { (result ≡ Err Refusal.NoRoom)
+        ↔ HasNoPageLeft pages.old.store }
+    ensures refusal { IfErr result (λ refusal.
+        (refusal ≡ Refusal.NoRoom) ⊎ (refusal ≡ Refusal.OutOfMemory)) }
+{
+    if pages.store.is_full() {
+        return Err(Refusal::NoRoom);
+    }
+    let page = pages.store.dir_page(dir)?;
+    make_page(subtx, pages, page)
 }

@@ -178,7 +178,7 @@ impl<P: Pseudo> HashFile<P> {
         ensures { result ≡ depth_of (page_at self.now.pages) self.now.root }
     {
         match self.runner.pages.store.read(self.root.page) {
-            Some(Page::Head(header)) => header.depth,
+            Some(Page::Head(header)) => header.get().depth,
             _ => unreachable!(),
         }
     }

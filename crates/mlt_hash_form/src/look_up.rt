@@ -31,6 +31,7 @@ pub fn home_bucket<'a, P: Pseudo>(
     let Some(Page::Head(head)) = store.read(root.page) else {
         return None;
     };
+    let head = head.get();
     if head.depth > 16 {
         return None;
     }
@@ -38,7 +39,7 @@ pub fn home_bucket<'a, P: Pseudo>(
     let Some(Page::Dir(dir)) = store.read(head.dir(place.dir)) else {
         return None;
     };
-    let number = dir.entry(place.entry);
+    let number = dir.get().entry(place.entry);
     let Some(Page::Bucket(bucket)) = store.read(number) else {
         return None;
     };

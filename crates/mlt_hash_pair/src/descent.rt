@@ -95,13 +95,13 @@ impl Descent {
         }
         match *self {
             Descent::Start => match read {
-                Page::Head(header) => descent_by_header(header, key, root),
+                Page::Head(header) => descent_by_header(header.get(), key, root),
                 _ => *self,
             },
             Descent::Headed { dir, row, .. } => match read {
                 Page::Dir(entries) => Descent::Placed {
                     dir,
-                    bucket: entries.entry(row),
+                    bucket: entries.get().entry(row),
                 },
                 _ => *self,
             },

@@ -12,7 +12,10 @@ ghost use Rattle.mlt_hash_split.specs.Tells.{Tells};
 
 use crate::phase::SplitPhase;
 use crate::split::{Split, SplitAnswer};
-use mlt_hash_access::{LockedStore, lock, make_page, read_held_dir, read_held_head, write_held};
+use mlt_hash_access::{
+    LockedStore, lock, make_dir_page, read_held_dir, read_held_head, write_held, write_held_dir,
+    write_held_head,
+};
 use mlt_hash_form::{NewPlaces, doubled_page, first_bits, page_with_new_places};
 use mlt_page::{HeadPage, Page};
 use mlt_page_subtx::Subtx;
@@ -83,7 +86,7 @@ pub(crate) fn write_in_place(
     let dir = read_held_dir(subtx, pages, number);
     let places = NewPlaces::of(split.seed, split.depth, split.directory_depth);
     let page = page_with_new_places(dir, place, places, split.new_page);
-    if let Err(refusal) = write_held(subtx, pages, number, Page::Dir(page)) {
+    if let Err(refusal) = write_held_dir(subtx, pages, number, page) {
         return SplitAnswer::Refused(refusal);
     }
     if place + 1 == end {
@@ -123,7 +126,7 @@ pub(crate) fn double_page(
     let entry = 2 * first_bits(split.seed, split.directory_depth) + 1;
     let first = doubled_page(dir, 2 * place, entry, split.new_page);
     let second = doubled_page(dir, 2 * place + 1, entry, split.new_page);
-    if let Err(refusal) = write_held(subtx, pages, number, Page::Dir(first)) {
+    if let Err(refusal) = write_held_dir(subtx, pages, number, first) {
         return SplitAnswer::Refused(refusal);
     }
     name_page(&mut split.made, 2 * place, number);
@@ -154,7 +157,7 @@ pub(crate) fn make_second_half(
     ensures tells { Tells target
         (local subtx.old pages.old) (local subtx.new pages.new) split.old split.new result }
 {
-    let number = match make_page(subtx, pages, Page::Dir(split.second)) {
+    let number = match make_dir_page(subtx, pages, split.second) {
         Ok(number) => number,
         Err(refusal) => return SplitAnswer::Refused(refusal),
     };
@@ -185,7 +188,7 @@ pub(crate) fn write_header(
     ensures tells { Tells target
         (local subtx.old pages.old) (local subtx.new pages.new) split.now split.now result }
 {
-    match write_held(subtx, pages, root, Page::Head(split.made)) {
+    match write_held_head(subtx, pages, root, split.made) {
         Ok(()) => SplitAnswer::Closed(split.key_bucket()),
         Err(refusal) => SplitAnswer::Refused(refusal),
     }

@@ -66,7 +66,7 @@ impl<P: Pseudo> Parts<P> {
         let Page::Head(head) = page else {
             unreachable!()
         };
-        head
+        head.get()
     }
 
     /// The depth of the directory, by the clean header.
@@ -92,7 +92,7 @@ impl<P: Pseudo> Parts<P> {
         let Page::Dir(directory) = page else {
             unreachable!()
         };
-        directory
+        directory.get()
     }
 
     /// The bucket to which a place on this page of the directory leads, on the clean pages.

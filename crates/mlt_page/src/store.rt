@@ -1,9 +1,11 @@
 //! Pages by their numbers.
 
-ghost use Rattle.std.specs.Prelude.{◌≡◌, ◌<◌, ◌≤◌, ◌⊎◌, ◌↔◌, Err, IfErr, IfOk, IsTrue, None, OnErr, false, option_copied, true};
+ghost use Rattle.std.specs.Prelude.{◌≡◌, ◌<◌, ◌≤◌, ◌⊎◌, ◌↔◌, Err, IfErr, IfOk, IsOkUnless, IsTrue, None, OnErr, false, is_some, option_copied, true};
 ghost use Rattle.std.specs.FinMap as map;
+ghost use Rattle.mlt_page.specs.declared.page.Page.TheVariants as page;
 ghost use Rattle.mlt_page.specs.Stores.{HasBucketAt, SetsSlot, page_at};
 
+use crate::directory::{DirPage, HeadPage};
 use crate::page::Page;
 use crate::slot::Slot;
 use mlt_types::{Limits, PageNo, Refusal};
@@ -14,6 +16,7 @@ use std::marker::Model;
 /// Pages by their numbers, at most as many as the limit says. A contract sees a finite map, and the limit.
 #[derive(Drop)]
 pub struct Store {
+    alloc: Global,
     pages: Slab<Page>,
     max_pages: u32,
 }
@@ -41,6 +44,7 @@ impl Store {
         ensures limit { result.max_pages ≡ limits.now.max_pages }
     {
         Store {
+            alloc,
             pages: Slab::new(alloc),
             max_pages: limits.max_pages,
         }
@@ -60,13 +64,59 @@ impl Store {
             → self.new ≡ record self.old { pages = map.insert self.old.pages number page } }
         ensures absent { result ≡ false → self.new ≡ self.old }
     {
+        self.replace(number, page).is_some()
+    }
+
+    /// Writes a page, and answers the page that stood there. Where there is none of this number, nothing changes.
+    pub fn replace(&mut self, number: PageNo, page: Page) -> Option<Page>
+        ensures old { result ≡ page_at self.old.pages number }
+        ensures pages { is_some result ≡ true
+            → self.new ≡ record self.old { pages = map.insert self.old.pages number page } }
+        ensures absent { result ≡ None → self.new ≡ self.old }
+    {
         match self.pages.get_mut(number.0 as usize) {
-            Some(place) => {
-                *place = page;
-                true
-            }
-            None => false,
+            Some(place) => Some(std::mem::replace(place, page)),
+            None => None,
         }
+    }
+
+    /// A further page like that of a number, if there is one.
+    ///
+    /// # Errors
+    /// `OutOfMemory`, where its room was refused.
+    pub fn copy(&self, number: PageNo) -> Result<Option<Page>, Refusal>
+        ensures copy { IfOk result (λ copy. copy ≡ page_at self.now.pages number) }
+        ensures refusal { IsOkUnless result Refusal.OutOfMemory }
+    {
+        match self.read(number) {
+            Some(page) => {
+                let copy = page.copy(self.alloc)?;
+                Ok(Some(copy))
+            }
+            None => Ok(None),
+        }
+    }
+
+    /// A page of the directory as a page that may be put into the store.
+    ///
+    /// # Errors
+    /// `OutOfMemory`, where its room was refused.
+    pub fn dir_page(&self, dir: DirPage) -> Result<Page, Refusal>
+        ensures page { IfOk result (λ made. made ≡ page.Dir dir) }
+        ensures refusal { IsOkUnless result Refusal.OutOfMemory }
+    {
+        Page::dir(self.alloc, dir)
+    }
+
+    /// A header as a page that may be put into the store.
+    ///
+    /// # Errors
+    /// `OutOfMemory`, where its room was refused.
+    pub fn head_page(&self, head: HeadPage) -> Result<Page, Refusal>
+        ensures page { IfOk result (λ made. made ≡ page.Head head) }
+        ensures refusal { IsOkUnless result Refusal.OutOfMemory }
+    {
+        Page::head(self.alloc, head)
     }
 
     /// Sets one slot of a bucket that is there. It copies no page.
@@ -96,7 +146,7 @@ impl Store {
         ensures refusal { IfErr result (λ refusal.
             (refusal ≡ Refusal.NoRoom) ⊎ (refusal ≡ Refusal.OutOfMemory)) }
     {
-        if self.pages.len() >= self.max_pages as usize {
+        if self.is_full() {
             return Err(Refusal::NoRoom);
         }
         let Ok(number) = u32::try_from(self.pages.vacant_key()) else {
@@ -104,6 +154,13 @@ impl Store {
         };
         self.pages.insert(page)?;
         Ok(PageNo(number))
+    }
+
+    /// Whether there are as many pages as there may be.
+    pub fn is_full(&self) -> bool
+        ensures { IsTrue result ↔ (map.len self.now.pages ≡ self.now.max_pages) }
+    {
+        self.pages.len() >= self.max_pages as usize
     }
 
     /// Takes a page away. Answers false where there is no page of this number; then nothing changes.

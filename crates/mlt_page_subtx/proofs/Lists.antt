@@ -142,6 +142,7 @@ kept_none near far n f =
     let all : near ++ far ≡ [] = ap (λ xs. xs ++ far) n ∙ f in
     record {
       once = grind (arith, ap (λ xs. map.len (images_of xs)) all, map.len-empty nat_cmp (Option Page));
+      few = omega (arith, long);
       near_first = λ some. absurd (omega arith);
     }
 
@@ -160,10 +161,18 @@ kept_far near far far' image kept none full is =
     record {
       kept = record {
         once = grind (arith, kept.once, ap (λ xs. map.len (images_of xs)) all, len_one_more (near ++ far) image none);
+        few = omega (arith, full);
         near_first = λ some. full;
       };
       images = ap images_of all ∙ images_of-append (near ++ far) image none;
     }
+
+-- and so is an entry where there are two images
+pub kept_entry : (near : List Image) (entries entries' : List (ℕ × Option Page)) (page : ℕ) (first : Option Page) → IsKept near (images_in entries) → image_of (images_of (near ++ images_in entries)) page ≡ None → 2 ≤ map.len (images_of (near ++ images_in entries))
+    → entries' ≡ entries ++ (page, first) ∷ [] → KeptOneMore near (images_in entries) near (images_in entries') (record { page = page; first = first })
+kept_entry near entries entries' page first kept none two is =
+    let full : length near ≡ 2 = grind (arith, nat_tests, kept.once, kept.few, kept.near_first, two) in
+    kept_far near (images_in entries) (images_in entries') (record { page = page; first = first }) kept none full (ap images_in is ∙ images_in-append entries ((page, first) ∷ []))
 
 no_far : (near far : List Image) → IsKept near far → length near < 2 → far ≡ []
 no_far near [] kept room = refl
@@ -183,6 +192,7 @@ kept_near near far near' image kept none room is =
     record {
       kept = record {
         once = grind (arith, kept.once, ap (λ xs. map.len (images_of xs)) all, len_one_more (near ++ far) image none);
+        few = omega (arith, long, room);
         near_first = λ some. absurd (omega arith);
       };
       images = ap images_of all ∙ images_of-append (near ++ far) image none;

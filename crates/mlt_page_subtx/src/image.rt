@@ -8,7 +8,7 @@ use mlt_page::{Page, Store};
 use mlt_types::PageNo;
 
 /// What a page had before a subtransaction first wrote it: nothing, where it was made then.
-#[derive(Clone, Copy)]
+#[derive(Drop)]
 pub(crate) struct Image {
     pub page: PageNo,
     pub first: Option<Page>,
@@ -26,14 +26,15 @@ impl Default for Image {
 
 impl Image {
     /// Gives the page what it had at first, or drops it.
-    pub fn put_back(&self, store: &mut Store)
-        requires { is_some (page_at store.old.pages self.now.page) ≡ true }
-        ensures { let pages = with_first store.old.pages self.now.page self.now.first in
+    pub fn put_back(self, store: &mut Store)
+        requires { is_some (page_at store.old.pages self.page) ≡ true }
+        ensures { let pages = with_first store.old.pages self.page self.first in
             store.new ≡ record store.old { pages = pages } }
     {
-        match self.first {
-            Some(page) => store.write(self.page, page),
-            None => store.drop_page(self.page),
+        let Image { page, first } = self;
+        match first {
+            Some(first) => store.write(page, first),
+            None => store.drop_page(page),
         };
     }
 }

@@ -1,6 +1,6 @@
 //! Room for the first two images.
 
-ghost use Rattle.std.specs.Prelude.{◌≡◌, ◌<◌, ◌≤◌, ◌==◌, ◌++◌, [], ◌∷◌, length, true, None, Some, IfSome, IfNone, option_copied};
+ghost use Rattle.std.specs.Prelude.{◌≡◌, ◌<◌, ◌≤◌, ◌==◌, ◌++◌, [], ◌∷◌, length, true, None, Some, IfSome, IfNone};
 
 use crate::image::Image;
 use mlt_page::{Bucket, Page};
@@ -59,13 +59,25 @@ impl NearImages {
     }
 
     /// Puts an image behind the others.
-    pub fn push(&mut self, page: PageNo, first: Option<&Page>)
+    pub fn push(&mut self, page: PageNo, first: Option<Page>)
         requires { length self.old < 2 }
-        ensures { self.new ≡ self.old ++ record { page = page; first = option_copied first.entry } ∷ [] }
+        ensures { self.new ≡ self.old ++ record { page = page; first = first } ∷ [] }
     {
         let image = &mut self.images[self.count];
         image.page = page;
-        put_first(&mut image.first, first);
+        image.first = first;
+        self.count += 1;
+    }
+
+    /// Puts the image of a bucket behind the others. The bucket is copied once.
+    pub fn push_bucket(&mut self, page: PageNo, bucket: &Bucket)
+        requires { length self.old < 2 }
+        ensures { self.new
+            ≡ self.old ++ record { page = page; first = Some (Page.Bucket bucket.now) } ∷ [] }
+    {
+        let image = &mut self.images[self.count];
+        image.page = page;
+        put_bucket(&mut image.first, bucket);
         self.count += 1;
     }
 
@@ -78,7 +90,8 @@ impl NearImages {
             return None;
         }
         self.count -= 1;
-        Some(self.images[self.count])
+        let image = std::mem::take(&mut self.images[self.count]);
+        Some(image)
     }
 
     /// Takes all off.
@@ -89,16 +102,7 @@ impl NearImages {
     }
 }
 
-// Puts a page where one may stand. Of a bucket no more is copied than it takes, a quarter of the room of a page.
-fn put_first(place: &mut Option<Page>, first: Option<&Page>)
-    ensures { place.new ≡ option_copied first.entry }
-{
-    match first {
-        Some(Page::Bucket(bucket)) => put_bucket(place, bucket),
-        _ => *place = first.copied(),
-    }
-}
-
+// Puts a bucket where a page may stand.
 fn put_bucket(place: &mut Option<Page>, bucket: &Bucket)
     ensures { place.new ≡ Some (Page.Bucket bucket.now) }
 {

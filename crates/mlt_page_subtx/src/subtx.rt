@@ -3,6 +3,7 @@
 ghost use Rattle.std.specs.Prelude.{◌≡◌, ◌≤◌, ◌<◌, ◌+◌, ◌==◌, ◌++◌, [], ◌∷◌, ◌⊎◌, ◌↔◌, ℕ, length, true, false, is_some, None, Some, Err, IfOk, IfErr, IsOkUnless, OnOk, OnErr, option_copied};
 ghost use Rattle.std.specs.FinMap as map;
 ghost use Rattle.mlt_types.specs.declared.mode.Mode.TheVariants.{Exclusive};
+ghost use Rattle.mlt_page.specs.declared.page.Page.TheVariants as page;
 ghost use Rattle.mlt_page.specs.Stores.{HasBucketAt, SetsSlot, page_at};
 ghost use Rattle.mlt_page_locks.specs.LockTables.{AreCompatible};
 ghost use Rattle.mlt_page_locks.specs.Requests.{granted, released};
@@ -13,7 +14,7 @@ ghost use Rattle.mlt_page_subtx.specs.Locking.{LocksPagesThere, HasRoomForOneMor
 use crate::image::{Image, find_image};
 use crate::near::NearImages;
 use indexmap::IndexMap;
-use mlt_page::{Page, Slot, Store};
+use mlt_page::{Bucket, Page, Slot, Store};
 use mlt_page_locks::{Grant, PageLocks};
 use mlt_types::{Mode, PageNo, Refusal, TxId};
 use std::alloc::Global;
@@ -102,8 +103,16 @@ impl Subtx {
             ((2 ≤ map.len self.old.images) × (image_of self.old.images number ≡ None)) }
         ensures refusal { IsOkUnless result Refusal.OutOfMemory }
     {
-        self.keep_first(store, number)?;
-        store.write(number, page);
+        if self.has_image(number) {
+            store.write(number, page);
+        } else if self.has_near_room() {
+            let first = store.replace(number, page);
+            self.keep_near(number, first);
+        } else {
+            let first = store.copy(number)?;
+            self.keep_far(number, first)?;
+            store.write(number, page);
+        }
         Ok(())
     }
 
@@ -131,7 +140,7 @@ impl Subtx {
             ((2 ≤ map.len self.old.images) × (image_of self.old.images number ≡ None)) }
         ensures refusal { IsOkUnless result Refusal.OutOfMemory }
     {
-        self.keep_first(store, number)?;
+        self.keep_bucket(store, number)?;
         store.set_slot(number, at, slot);
         Ok(())
     }
@@ -167,7 +176,7 @@ impl Subtx {
             (refusal ≡ Refusal.NoRoom) ⊎ (refusal ≡ Refusal.OutOfMemory)) }
     {
         let number = store.grow(page)?;
-        if let Err(refusal) = self.keep(number, None) {
+        if let Err(refusal) = self.keep_made(number) {
             store.drop_page(number);
             return Err(refusal);
         }
@@ -217,8 +226,17 @@ impl Subtx {
         self.first_image(page).is_some()
     }
 
-    // Keeps a page as it is, if it has no image yet.
-    fn keep_first(&mut self, store: &Store, number: PageNo) -> Result<(), Refusal>
+    // Whether there is room for an image in the value.
+    fn has_near_room(&self) -> bool
+        ensures room { result ≡ true → map.len self.now.images < 2 }
+        ensures full { result ≡ false → 2 ≤ map.len self.now.images }
+    {
+        !self.near.is_full()
+    }
+
+    // Keeps a bucket as it is, if it has no image yet.
+    fn keep_bucket(&mut self, store: &Store, number: PageNo) -> Result<(), Refusal>
+        requires bucket { HasBucketAt store.now.pages number }
         ensures images { let first = page_at store.now.pages number in
             let images = with_image self.old.images number first in
             OnOk result (self.new ≡ record self.old { images = images }) }
@@ -227,27 +245,65 @@ impl Subtx {
             ((2 ≤ map.len self.old.images) × (image_of self.old.images number ≡ None)) }
         ensures refusal { IsOkUnless result Refusal.OutOfMemory }
     {
-        if !self.has_image(number) {
-            let first = self.read(store, number);
-            self.keep(number, first)?;
+        if self.has_image(number) {
+            return Ok(());
         }
-        Ok(())
+        let Some(Page::Bucket(bucket)) = self.read(store, number) else {
+            unreachable!()
+        };
+        if self.has_near_room() {
+            self.keep_near_bucket(number, bucket);
+            return Ok(());
+        }
+        self.keep_far(number, Some(Page::Bucket(*bucket)))
     }
 
-    // Keeps the first image of a page that has none.
-    fn keep(&mut self, page: PageNo, first: Option<&Page>) -> Result<(), Refusal>
-        requires { image_of self.old.images page ≡ None }
-        ensures ok { let images = map.insert self.old.images page (option_copied first.entry) in
+    // Keeps that a page was made.
+    fn keep_made(&mut self, number: PageNo) -> Result<(), Refusal>
+        requires { image_of self.old.images number ≡ None }
+        ensures ok { let images = map.insert self.old.images number None in
             OnOk result (self.new ≡ record self.old { images = images }) }
         ensures err { OnErr result (self.new ≡ self.old) }
-        ensures third { OnErr result (2 ≤ map.len self.old.images) }
         ensures refusal { IsOkUnless result Refusal.OutOfMemory }
     {
-        if self.near.is_full() {
-            self.far.insert(page, first.copied())?;
-        } else {
-            self.near.push(page, first);
+        if self.has_near_room() {
+            self.keep_near(number, None);
+            return Ok(());
         }
+        self.keep_far(number, None)
+    }
+
+    // Keeps the first image of a page that has none, in the value.
+    fn keep_near(&mut self, page: PageNo, first: Option<Page>)
+        requires room { map.len self.old.images < 2 }
+        requires anew { image_of self.old.images page ≡ None }
+        ensures { let images = map.insert self.old.images page first in
+            self.new ≡ record self.old { images = images } }
+    {
+        self.near.push(page, first);
+    }
+
+    // Keeps the first image of a bucket that has none, in the value.
+    fn keep_near_bucket(&mut self, number: PageNo, bucket: &Bucket)
+        requires room { map.len self.old.images < 2 }
+        requires anew { image_of self.old.images number ≡ None }
+        ensures { let first = Some (page.Bucket bucket.now) in
+            let images = map.insert self.old.images number first in
+            self.new ≡ record self.old { images = images } }
+    {
+        self.near.push_bucket(number, bucket);
+    }
+
+    // Keeps the first image of a page that has none, behind the first two.
+    fn keep_far(&mut self, page: PageNo, first: Option<Page>) -> Result<(), Refusal>
+        requires full { 2 ≤ map.len self.old.images }
+        requires anew { image_of self.old.images page ≡ None }
+        ensures ok { let images = map.insert self.old.images page first in
+            OnOk result (self.new ≡ record self.old { images = images }) }
+        ensures err { OnErr result (self.new ≡ self.old) }
+        ensures refusal { IsOkUnless result Refusal.OutOfMemory }
+    {
+        self.far.insert(page, first)?;
         Ok(())
     }
 }

@@ -35,8 +35,8 @@ returns-clause-opening c =
       c.in_ok-dir.dir,
       c.in_ok-bucket.bucket,
       active c.args.store.now c.grow.new.self c.grow-2.new.self c.grow-3.new.self c.in_ok-bucket.bucket c.in_ok-dir.dir c.in_ok-head.head _ _ _ c.requires.no_page first second third
-          (λ i. Page.Head (record { depth = c.new-2.ensures.depth i; dirs = c.new-2.ensures.dirs i }))
-          (ap Page.Dir c.new.ensures)
+          (c.in_ok-header.ensures.page ∙ (λ i. Page.Head (record { depth = c.new-2.ensures.depth i; dirs = c.new-2.ensures.dirs i })))
+          (c.in_ok-listed.ensures.page ∙ ap Page.Dir c.new.ensures)
           (λ i. Page.Bucket (record { depth = c.empty.ensures.depth i; slots = c.empty.ensures.slots i })),
     )
 

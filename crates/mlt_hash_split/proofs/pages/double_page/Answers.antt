@@ -56,27 +56,27 @@ overflow_mul-entry g c = let few = few g (goal.at.overflow_mul-entry g c).After-
 pub overflow_add-entry : goal.overflow_add-entry
 overflow_add-entry g c = let few = few g (goal.at.overflow_add-entry g c).After-first_bits in omega (arith, few, c.first_bits.ensures.below)
 
-pub write_held-requires-clause-held : goal.write_held-requires-clause-held
-write_held-requires-clause-held g c = locked_may_be_written (local c.args.subtx.now c.args.pages.now) (local c.args.subtx.now c.lock.new.pages) c.dir-number.result _ c.in_default.ensures.view.1
+pub write_held_dir-requires-clause-held : goal.write_held_dir-requires-clause-held
+write_held_dir-requires-clause-held g c = locked_may_be_written (local c.args.subtx.now c.args.pages.now) (local c.args.subtx.now c.lock.new.pages) c.dir-number.result _ c.in_default.ensures.view.1
 
-pub returns-in-Err-write_held-clause-leaves : goal.returns-in-Err-write_held-clause-leaves
-returns-in-Err-write_held-clause-leaves g c =
-    leaves_by_locking (local c.args.subtx.now c.args.pages.now) (local c.args.subtx.now c.lock.new.pages) (local c.write_held.new.subtx c.write_held.new.pages) c.dir-number.result Exclusive c.requires.1.1.0.may c.in_default.ensures.locks (same_local _ _ _ _ c.in-Err-write_held.ensures.err.0 c.in-Err-write_held.ensures.err.1)
+pub returns-in-Err-write_held_dir-clause-leaves : goal.returns-in-Err-write_held_dir-clause-leaves
+returns-in-Err-write_held_dir-clause-leaves g c =
+    leaves_by_locking (local c.args.subtx.now c.args.pages.now) (local c.args.subtx.now c.lock.new.pages) (local c.write_held_dir.new.subtx c.write_held_dir.new.pages) c.dir-number.result Exclusive c.requires.1.1.0.may c.in_default.ensures.locks (same_local _ _ _ _ c.in-Err-write_held_dir.ensures.err.0 c.in-Err-write_held_dir.ensures.err.1)
 
-pub returns-in-Err-write_held-clause-steps : goal.returns-in-Err-write_held-clause-steps
-returns-in-Err-write_held-clause-steps g c =
+pub returns-in-Err-write_held_dir-clause-steps : goal.returns-in-Err-write_held_dir-clause-steps
+returns-in-Err-write_held_dir-clause-steps g c =
     let read = header_as_read g.target.before (local c.args.subtx.now c.args.pages.now) c.args.root g.target.root c.read_held_head-header.result.now c.requires.1.0 c.requires.1.1.0.written c.read_held_head-header.ensures.reads in
-    let same : (local c.write_held.new.subtx c.write_held.new.pages) ≡ (local c.args.subtx.now c.lock.new.pages) = same_local _ _ _ _ c.in-Err-write_held.ensures.err.0 c.in-Err-write_held.ensures.err.1 in
-    left_at g.target (local c.args.subtx.now c.args.pages.now) (local c.write_held.new.subtx c.write_held.new.pages) c.args.split.now (SplitPhase.Double c.args.place) c.requires.0 (c.dir-number.result, (c.read_held_head-header.result.now, read, c.dir-number.ensures), subst (λ (n : LocalState). LocksPage (local c.args.subtx.now c.args.pages.now) n c.dir-number.result Exclusive) (sym same) c.in_default.ensures.locks)
+    let same : (local c.write_held_dir.new.subtx c.write_held_dir.new.pages) ≡ (local c.args.subtx.now c.lock.new.pages) = same_local _ _ _ _ c.in-Err-write_held_dir.ensures.err.0 c.in-Err-write_held_dir.ensures.err.1 in
+    left_at g.target (local c.args.subtx.now c.args.pages.now) (local c.write_held_dir.new.subtx c.write_held_dir.new.pages) c.args.split.now (SplitPhase.Double c.args.place) c.requires.0 (c.dir-number.result, (c.read_held_head-header.result.now, read, c.dir-number.ensures), subst (λ (n : LocalState). LocksPage (local c.args.subtx.now c.args.pages.now) n c.dir-number.result Exclusive) (sym same) c.in_default.ensures.locks)
 
 pub returns-clause-steps : goal.returns-clause-steps
 returns-clause-steps g c =
     let read = header_as_read g.target.before (local c.args.subtx.now c.args.pages.now) c.args.root g.target.root c.read_held_head-header.result.now c.requires.1.0 c.requires.1.1.0.written c.read_held_head-header.ensures.reads in
-    done_at g.target (local c.args.subtx.now c.args.pages.now) (local c.write_held.new.subtx c.write_held.new.pages) c.args.split.now (SplitPhase.Double c.args.place) c.requires.0 (c.dir-number.result, (c.read_held_head-header.result.now, read, c.dir-number.ensures), ((local c.args.subtx.now c.lock.new.pages), c.in_default.ensures.locks, (_, c.in_default-write_held.ensures.writes)))
+    done_at g.target (local c.args.subtx.now c.args.pages.now) (local c.write_held_dir.new.subtx c.write_held_dir.new.pages) c.args.split.now (SplitPhase.Double c.args.place) c.requires.0 (c.dir-number.result, (c.read_held_head-header.result.now, read, c.dir-number.ensures), ((local c.args.subtx.now c.lock.new.pages), c.in_default.ensures.locks, (_, c.in_default-write_held_dir.ensures.writes)))
 
 pub returns-clause-leaves : goal.returns-clause-leaves
 returns-clause-leaves g c =
-    leaves_by_rewriting (local c.args.subtx.now c.args.pages.now) (local c.args.subtx.now c.lock.new.pages) (local c.write_held.new.subtx c.write_held.new.pages) c.dir-number.result Exclusive _ c.requires.1.1.0.may c.in_default.ensures.locks c.in_default-write_held.ensures.writes
+    leaves_by_rewriting (local c.args.subtx.now c.args.pages.now) (local c.args.subtx.now c.lock.new.pages) (local c.write_held_dir.new.subtx c.write_held_dir.new.pages) c.dir-number.result Exclusive _ c.requires.1.1.0.may c.in_default.ensures.locks c.in_default-write_held_dir.ensures.writes
 
 pub returns-clause-tells : goal.returns-clause-tells
 returns-clause-tells g c =
@@ -84,20 +84,20 @@ returns-clause-tells g c =
     let place : 2 * c.first_bits.result + 1 ≡ 2 * first_bits split.directory_depth split.seed + 1 = ap (λ n. 2 * n + 1) c.first_bits.ensures.value in
     let one = c.doubled_page-first.ensures in
     let two = c.doubled_page-second.ensures in
-    let step : IsRewrite g.target (local c.args.subtx.now c.args.pages.now) (local c.args.subtx.now c.lock.new.pages) (local c.write_held.new.subtx c.write_held.new.pages) split c.args.place c.dir-number.result c.read_held_head-header.result.now c.read_held_dir-dir.result.now c.doubled_page-first.result c.doubled_page-second.result = record {
+    let step : IsRewrite g.target (local c.args.subtx.now c.args.pages.now) (local c.args.subtx.now c.lock.new.pages) (local c.write_held_dir.new.subtx c.write_held_dir.new.pages) split c.args.place c.dir-number.result c.read_held_head-header.result.now c.read_held_dir-dir.result.now c.doubled_page-first.result c.doubled_page-second.result = record {
       read = header_as_read g.target.before (local c.args.subtx.now c.args.pages.now) c.args.root g.target.root c.read_held_head-header.result.now c.requires.1.0 c.requires.1.1.0.written c.read_held_head-header.ensures.reads;
       listed = c.dir-number.ensures;
       reads = rebased_reads_page g.target.before (view_of (local c.args.subtx.now c.args.pages.now)) (view_of (local c.args.subtx.now c.lock.new.pages)) c.requires.1.1.0.written c.dir-number.result Exclusive (Some (Page.Dir c.read_held_dir-dir.result.now)) (reads_seen (view_of (local c.args.subtx.now c.args.pages.now)) (view_of (local c.args.subtx.now c.lock.new.pages)) c.dir-number.result Exclusive (Page.Dir c.read_held_dir-dir.result.now) c.in_default.ensures.view c.read_held_dir-dir.ensures.reads);
-      writes = rebased_writes_page g.target.before (view_of (local c.args.subtx.now c.lock.new.pages)) (view_of (local c.write_held.new.subtx c.write_held.new.pages)) c.dir-number.result (Page.Dir c.doubled_page-first.result) c.in_default-write_held.ensures.view;
+      writes = rebased_writes_page g.target.before (view_of (local c.args.subtx.now c.lock.new.pages)) (view_of (local c.write_held_dir.new.subtx c.write_held_dir.new.pages)) c.dir-number.result (Page.Dir c.doubled_page-first.result) c.in_default-write_held_dir.ensures.view;
       one = record { size = one.size; entries = subst (λ (k : ℕ). IsDoubled c.read_held_dir-dir.result.now c.doubled_page-first.result (2 * c.args.place) k split.new_page) place one.entries };
       two = record { size = two.size; entries = subst (λ (k : ℕ). IsDoubled c.read_held_dir-dir.result.now c.doubled_page-second.result (2 * c.args.place + 1) k split.new_page) place two.entries };
       sized = c.name_page.ensures.places;
     } in
     elim c.if-split-lt8.branch [
       | then-split-lt8 w ↦
-          goes_on_to_the_only_header g.target (local c.args.subtx.now c.args.pages.now) (local c.args.subtx.now c.lock.new.pages) (local c.write_held.new.subtx c.write_held.new.pages) split c.args.split.now c.args.place c.dir-number.result c.read_held_head-header.result.now c.name_page.new.made c.read_held_dir-dir.result.now c.doubled_page-first.result c.doubled_page-second.result c.if-split-lt8.split c.split.view_is c.requires.0 c.requires.1.1.0.may (clean_now g.target (local c.args.subtx.now c.args.pages.now) c.requires.1.1.0.may c.requires.1.1.0.file) c.requires.1.1.0.under_way
+          goes_on_to_the_only_header g.target (local c.args.subtx.now c.args.pages.now) (local c.args.subtx.now c.lock.new.pages) (local c.write_held_dir.new.subtx c.write_held_dir.new.pages) split c.args.split.now c.args.place c.dir-number.result c.read_held_head-header.result.now c.name_page.new.made c.read_held_dir-dir.result.now c.doubled_page-first.result c.doubled_page-second.result c.if-split-lt8.split c.split.view_is c.requires.0 c.requires.1.1.0.may (clean_now g.target (local c.args.subtx.now c.args.pages.now) c.requires.1.1.0.may c.requires.1.1.0.file) c.requires.1.1.0.under_way
           step w.if-split-lt8.true c.name_page.ensures.named w.split-is
       | else-split-lt8 w ↦
-          goes_on_to_the_second_half g.target (local c.args.subtx.now c.args.pages.now) (local c.args.subtx.now c.lock.new.pages) (local c.write_held.new.subtx c.write_held.new.pages) split c.args.split.now c.args.place c.dir-number.result c.read_held_head-header.result.now c.name_page.new.made c.read_held_dir-dir.result.now c.doubled_page-first.result c.doubled_page-second.result c.if-split-lt8.split c.split.view_is c.requires.0 c.requires.1.1.0.may (clean_now g.target (local c.args.subtx.now c.args.pages.now) c.requires.1.1.0.may c.requires.1.1.0.file) c.requires.1.1.0.under_way
+          goes_on_to_the_second_half g.target (local c.args.subtx.now c.args.pages.now) (local c.args.subtx.now c.lock.new.pages) (local c.write_held_dir.new.subtx c.write_held_dir.new.pages) split c.args.split.now c.args.place c.dir-number.result c.read_held_head-header.result.now c.name_page.new.made c.read_held_dir-dir.result.now c.doubled_page-first.result c.doubled_page-second.result c.if-split-lt8.split c.split.view_is c.requires.0 c.requires.1.1.0.may (clean_now g.target (local c.args.subtx.now c.args.pages.now) c.requires.1.1.0.may c.requires.1.1.0.file) c.requires.1.1.0.under_way
           step w.if-split-lt8.false c.name_page.ensures.named w.split-is
     ]

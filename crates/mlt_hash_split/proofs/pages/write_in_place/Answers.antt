@@ -60,18 +60,18 @@ page_with_new_places-page-requires-clause-places g c =
     let most : 2 ^ c.split.inside.directory_depth ≤ 2 ^ 16 = pow-le-pow_right {n = 2} (omega arith) deep in
     omega (arith, most, c.of-places.ensures.within)
 
-pub write_held-requires-clause-held : goal.write_held-requires-clause-held
-write_held-requires-clause-held g c = locked_may_be_written (local c.args.subtx.now c.args.pages.now) (local c.args.subtx.now c.lock.new.pages) c.dir-number.result _ c.in_default.ensures.view.1
+pub write_held_dir-requires-clause-held : goal.write_held_dir-requires-clause-held
+write_held_dir-requires-clause-held g c = locked_may_be_written (local c.args.subtx.now c.args.pages.now) (local c.args.subtx.now c.lock.new.pages) c.dir-number.result _ c.in_default.ensures.view.1
 
-pub returns-in-Err-write_held-clause-leaves : goal.returns-in-Err-write_held-clause-leaves
-returns-in-Err-write_held-clause-leaves g c =
-    leaves_by_locking (local c.args.subtx.now c.args.pages.now) (local c.args.subtx.now c.lock.new.pages) _ c.dir-number.result Exclusive c.requires.1.1.may c.in_default.ensures.locks (same_local _ _ _ _ c.in-Err-write_held.ensures.err.0 c.in-Err-write_held.ensures.err.1)
+pub returns-in-Err-write_held_dir-clause-leaves : goal.returns-in-Err-write_held_dir-clause-leaves
+returns-in-Err-write_held_dir-clause-leaves g c =
+    leaves_by_locking (local c.args.subtx.now c.args.pages.now) (local c.args.subtx.now c.lock.new.pages) _ c.dir-number.result Exclusive c.requires.1.1.may c.in_default.ensures.locks (same_local _ _ _ _ c.in-Err-write_held_dir.ensures.err.0 c.in-Err-write_held_dir.ensures.err.1)
 
-pub returns-in-Err-write_held-clause-steps : goal.returns-in-Err-write_held-clause-steps
-returns-in-Err-write_held-clause-steps g c =
+pub returns-in-Err-write_held_dir-clause-steps : goal.returns-in-Err-write_held_dir-clause-steps
+returns-in-Err-write_held_dir-clause-steps g c =
     let head = header_as_read g.target.before (local c.args.subtx.now c.args.pages.now) c.args.root g.target.root c.read_held_head-header.result.now c.requires.1.0 c.requires.1.1.written c.read_held_head-header.ensures.reads in
-    let same : (local c.write_held.new.subtx c.write_held.new.pages) ≡ (local c.args.subtx.now c.lock.new.pages) = same_local _ _ _ _ c.in-Err-write_held.ensures.err.0 c.in-Err-write_held.ensures.err.1 in
-    left_at g.target (local c.args.subtx.now c.args.pages.now) (local c.write_held.new.subtx c.write_held.new.pages) c.args.split.now (SplitPhase.InPlace c.args.place c.args.end) c.requires.0 (c.dir-number.result, (c.read_held_head-header.result.now, head, c.dir-number.ensures), subst (λ (n : LocalState). LocksPage (local c.args.subtx.now c.args.pages.now) n c.dir-number.result Exclusive) (sym same) c.in_default.ensures.locks)
+    let same : (local c.write_held_dir.new.subtx c.write_held_dir.new.pages) ≡ (local c.args.subtx.now c.lock.new.pages) = same_local _ _ _ _ c.in-Err-write_held_dir.ensures.err.0 c.in-Err-write_held_dir.ensures.err.1 in
+    left_at g.target (local c.args.subtx.now c.args.pages.now) (local c.write_held_dir.new.subtx c.write_held_dir.new.pages) c.args.split.now (SplitPhase.InPlace c.args.place c.args.end) c.requires.0 (c.dir-number.result, (c.read_held_head-header.result.now, head, c.dir-number.ensures), subst (λ (n : LocalState). LocksPage (local c.args.subtx.now c.args.pages.now) n c.dir-number.result Exclusive) (sym same) c.in_default.ensures.locks)
 
 pub overflow_add-place : goal.overflow_add-place
 overflow_add-place g c =
@@ -85,12 +85,12 @@ key_bucket-requires g c =
     omega (arith, depths.0, depths.1)
 
 pub returns-then-place-end-clause-leaves : goal.returns-then-place-end-clause-leaves
-returns-then-place-end-clause-leaves g c = leaves_by_rewriting (local c.args.subtx.now c.args.pages.now) (local c.args.subtx.now c.lock.new.pages) _ c.dir-number.result Exclusive _ c.requires.1.1.may c.in_default.ensures.locks c.in_default-write_held.ensures.writes
+returns-then-place-end-clause-leaves g c = leaves_by_rewriting (local c.args.subtx.now c.args.pages.now) (local c.args.subtx.now c.lock.new.pages) _ c.dir-number.result Exclusive _ c.requires.1.1.may c.in_default.ensures.locks c.in_default-write_held_dir.ensures.writes
 
 pub returns-then-place-end-clause-steps : goal.returns-then-place-end-clause-steps
 returns-then-place-end-clause-steps g c =
     let head = header_as_read g.target.before (local c.args.subtx.now c.args.pages.now) c.args.root g.target.root c.read_held_head-header.result.now c.requires.1.0 c.requires.1.1.written c.read_held_head-header.ensures.reads in
-    done_at g.target (local c.args.subtx.now c.args.pages.now) (local c.write_held.new.subtx c.write_held.new.pages) c.args.split.now (SplitPhase.InPlace c.args.place c.args.end) c.requires.0 (c.dir-number.result, (c.read_held_head-header.result.now, head, c.dir-number.ensures), ((local c.args.subtx.now c.lock.new.pages), c.in_default.ensures.locks, (_, c.in_default-write_held.ensures.writes)))
+    done_at g.target (local c.args.subtx.now c.args.pages.now) (local c.write_held_dir.new.subtx c.write_held_dir.new.pages) c.args.split.now (SplitPhase.InPlace c.args.place c.args.end) c.requires.0 (c.dir-number.result, (c.read_held_head-header.result.now, head, c.dir-number.ensures), ((local c.args.subtx.now c.lock.new.pages), c.in_default.ensures.locks, (_, c.in_default-write_held_dir.ensures.writes)))
 
 pub returns-then-place-end-clause-tells : goal.returns-then-place-end-clause-tells
 returns-then-place-end-clause-tells g c =
@@ -98,10 +98,10 @@ returns-then-place-end-clause-tells g c =
     let places : AreNewPlaces c.args.split.now c.of-places.result.first c.of-places.result.count = subst (λ (s : SplitFields). AreNewPlaces s c.of-places.result.first c.of-places.result.count) c.split.view_is (record { first_is = c.of-places.ensures.first; count_is = c.of-places.ensures.count }) in
     let has : IsMadeInPlace c.read_held_dir-dir.result.now c.page_with_new_places-page.result c.args.place c.of-places.result.first c.of-places.result.count c.args.split.now.new_page = subst (λ (s : SplitFields). IsMadeInPlace c.read_held_dir-dir.result.now c.page_with_new_places-page.result c.args.place c.of-places.result.first c.of-places.result.count s.new_page) c.split.view_is (record { size = c.page_with_new_places-page.ensures.size; entries = c.page_with_new_places-page.ensures.entries }) in
     let reads : ReadsPage (view_over g.target.before (local c.args.subtx.now c.args.pages.now)) (view_over g.target.before (local c.args.subtx.now c.lock.new.pages)) c.dir-number.result Exclusive (Some (Page.Dir c.read_held_dir-dir.result.now)) = rebased_reads_page g.target.before (view_of (local c.args.subtx.now c.args.pages.now)) (view_of (local c.args.subtx.now c.lock.new.pages)) c.requires.1.1.written c.dir-number.result Exclusive (Some (Page.Dir c.read_held_dir-dir.result.now)) (reads_seen (view_of (local c.args.subtx.now c.args.pages.now)) (view_of (local c.args.subtx.now c.lock.new.pages)) c.dir-number.result Exclusive (Page.Dir c.read_held_dir-dir.result.now) c.in_default.ensures.view c.read_held_dir-dir.ensures.reads) in
-    let writes = rebased_writes_page g.target.before (view_of (local c.args.subtx.now c.lock.new.pages)) (view_of (local c.write_held.new.subtx c.write_held.new.pages)) c.dir-number.result (Page.Dir c.page_with_new_places-page.result) c.in_default-write_held.ensures.view in
+    let writes = rebased_writes_page g.target.before (view_of (local c.args.subtx.now c.lock.new.pages)) (view_of (local c.write_held_dir.new.subtx c.write_held_dir.new.pages)) c.dir-number.result (Page.Dir c.page_with_new_places-page.result) c.in_default-write_held_dir.ensures.view in
     let file = c.requires.1.1.file in
-    let clean : HasClean g.target (view_over g.target.before (local c.write_held.new.subtx c.write_held.new.pages)) = clean_later g.target (local c.args.subtx.now c.args.pages.now) (local c.write_held.new.subtx c.write_held.new.pages) c.write_held.ensures.leaves.may file (c.write_held.ensures.leaves.clean file.clean (c.lock.ensures.leaves.clean file.clean file.is_clean)) in
-    in_place_rests g.target (local c.args.subtx.now c.args.pages.now) c.args.split.now c.args.place c.args.end c.requires.1.1.may (clean_now g.target (local c.args.subtx.now c.args.pages.now) c.requires.1.1.may c.requires.1.1.file) c.requires.1.1.under_way c.requires.0 c.read_held_head-header.result.now head c.dir-number.result c.dir-number.ensures (local c.write_held.new.subtx c.write_held.new.pages) (view_over g.target.before (local c.args.subtx.now c.lock.new.pages)) c.read_held_dir-dir.result.now c.page_with_new_places-page.result c.of-places.result.first c.of-places.result.count places has reads writes c.key_bucket.result c.if-place-end.true clean c.key_bucket.ensures
+    let clean : HasClean g.target (view_over g.target.before (local c.write_held_dir.new.subtx c.write_held_dir.new.pages)) = clean_later g.target (local c.args.subtx.now c.args.pages.now) (local c.write_held_dir.new.subtx c.write_held_dir.new.pages) c.write_held_dir.ensures.leaves.may file (c.write_held_dir.ensures.leaves.clean file.clean (c.lock.ensures.leaves.clean file.clean file.is_clean)) in
+    in_place_rests g.target (local c.args.subtx.now c.args.pages.now) c.args.split.now c.args.place c.args.end c.requires.1.1.may (clean_now g.target (local c.args.subtx.now c.args.pages.now) c.requires.1.1.may c.requires.1.1.file) c.requires.1.1.under_way c.requires.0 c.read_held_head-header.result.now head c.dir-number.result c.dir-number.ensures (local c.write_held_dir.new.subtx c.write_held_dir.new.pages) (view_over g.target.before (local c.args.subtx.now c.lock.new.pages)) c.read_held_dir-dir.result.now c.page_with_new_places-page.result c.of-places.result.first c.of-places.result.count places has reads writes c.key_bucket.result c.if-place-end.true clean c.key_bucket.ensures
 
 pub overflow_add-split : goal.overflow_add-split
 overflow_add-split g c =
@@ -110,12 +110,12 @@ overflow_add-split g c =
     omega (arith, small, more)
 
 pub returns-clause-leaves : goal.returns-clause-leaves
-returns-clause-leaves g c = leaves_by_rewriting (local c.args.subtx.now c.args.pages.now) (local c.args.subtx.now c.lock.new.pages) _ c.dir-number.result Exclusive _ c.requires.1.1.may c.in_default.ensures.locks c.in_default-write_held.ensures.writes
+returns-clause-leaves g c = leaves_by_rewriting (local c.args.subtx.now c.args.pages.now) (local c.args.subtx.now c.lock.new.pages) _ c.dir-number.result Exclusive _ c.requires.1.1.may c.in_default.ensures.locks c.in_default-write_held_dir.ensures.writes
 
 pub returns-clause-steps : goal.returns-clause-steps
 returns-clause-steps g c =
     let head = header_as_read g.target.before (local c.args.subtx.now c.args.pages.now) c.args.root g.target.root c.read_held_head-header.result.now c.requires.1.0 c.requires.1.1.written c.read_held_head-header.ensures.reads in
-    done_at g.target (local c.args.subtx.now c.args.pages.now) (local c.write_held.new.subtx c.write_held.new.pages) c.args.split.now (SplitPhase.InPlace c.args.place c.args.end) c.requires.0 (c.dir-number.result, (c.read_held_head-header.result.now, head, c.dir-number.ensures), ((local c.args.subtx.now c.lock.new.pages), c.in_default.ensures.locks, (_, c.in_default-write_held.ensures.writes)))
+    done_at g.target (local c.args.subtx.now c.args.pages.now) (local c.write_held_dir.new.subtx c.write_held_dir.new.pages) c.args.split.now (SplitPhase.InPlace c.args.place c.args.end) c.requires.0 (c.dir-number.result, (c.read_held_head-header.result.now, head, c.dir-number.ensures), ((local c.args.subtx.now c.lock.new.pages), c.in_default.ensures.locks, (_, c.in_default-write_held_dir.ensures.writes)))
 
 pub returns-clause-tells : goal.returns-clause-tells
 returns-clause-tells g c =
@@ -123,8 +123,8 @@ returns-clause-tells g c =
     let places : AreNewPlaces c.args.split.now c.of-places.result.first c.of-places.result.count = subst (λ (s : SplitFields). AreNewPlaces s c.of-places.result.first c.of-places.result.count) c.split.view_is (record { first_is = c.of-places.ensures.first; count_is = c.of-places.ensures.count }) in
     let has : IsMadeInPlace c.read_held_dir-dir.result.now c.page_with_new_places-page.result c.args.place c.of-places.result.first c.of-places.result.count c.args.split.now.new_page = subst (λ (s : SplitFields). IsMadeInPlace c.read_held_dir-dir.result.now c.page_with_new_places-page.result c.args.place c.of-places.result.first c.of-places.result.count s.new_page) c.split.view_is (record { size = c.page_with_new_places-page.ensures.size; entries = c.page_with_new_places-page.ensures.entries }) in
     let reads : ReadsPage (view_over g.target.before (local c.args.subtx.now c.args.pages.now)) (view_over g.target.before (local c.args.subtx.now c.lock.new.pages)) c.dir-number.result Exclusive (Some (Page.Dir c.read_held_dir-dir.result.now)) = rebased_reads_page g.target.before (view_of (local c.args.subtx.now c.args.pages.now)) (view_of (local c.args.subtx.now c.lock.new.pages)) c.requires.1.1.written c.dir-number.result Exclusive (Some (Page.Dir c.read_held_dir-dir.result.now)) (reads_seen (view_of (local c.args.subtx.now c.args.pages.now)) (view_of (local c.args.subtx.now c.lock.new.pages)) c.dir-number.result Exclusive (Page.Dir c.read_held_dir-dir.result.now) c.in_default.ensures.view c.read_held_dir-dir.ensures.reads) in
-    let writes = rebased_writes_page g.target.before (view_of (local c.args.subtx.now c.lock.new.pages)) (view_of (local c.write_held.new.subtx c.write_held.new.pages)) c.dir-number.result (Page.Dir c.page_with_new_places-page.result) c.in_default-write_held.ensures.view in
+    let writes = rebased_writes_page g.target.before (view_of (local c.args.subtx.now c.lock.new.pages)) (view_of (local c.write_held_dir.new.subtx c.write_held_dir.new.pages)) c.dir-number.result (Page.Dir c.page_with_new_places-page.result) c.in_default-write_held_dir.ensures.view in
     let before = place_before_end g.target (local c.args.subtx.now c.args.pages.now) c.args.split.now c.args.place c.args.end c.requires.1.1.may (clean_now g.target (local c.args.subtx.now c.args.pages.now) c.requires.1.1.may c.requires.1.1.file) c.requires.1.1.under_way c.requires.0 in
     let more : c.args.place + 1 < c.args.end = omega (arith, before, c.if-place-end.false) in
-    let goes = in_place_goes_on g.target (local c.args.subtx.now c.args.pages.now) c.args.split.now c.args.place c.args.end c.requires.1.1.may (clean_now g.target (local c.args.subtx.now c.args.pages.now) c.requires.1.1.may c.requires.1.1.file) c.requires.1.1.under_way c.requires.0 c.read_held_head-header.result.now head c.dir-number.result c.dir-number.ensures (local c.write_held.new.subtx c.write_held.new.pages) (view_over g.target.before (local c.args.subtx.now c.lock.new.pages)) c.read_held_dir-dir.result.now c.page_with_new_places-page.result c.of-places.result.first c.of-places.result.count places has reads writes more in
-    subst (λ (s : SplitFields). GoesOn g.target (local c.write_held.new.subtx c.write_held.new.pages) c.args.split.now (record s { phase = SplitPhase.InPlace (c.args.place + 1) c.args.end })) (sym c.split.view_is) goes
+    let goes = in_place_goes_on g.target (local c.args.subtx.now c.args.pages.now) c.args.split.now c.args.place c.args.end c.requires.1.1.may (clean_now g.target (local c.args.subtx.now c.args.pages.now) c.requires.1.1.may c.requires.1.1.file) c.requires.1.1.under_way c.requires.0 c.read_held_head-header.result.now head c.dir-number.result c.dir-number.ensures (local c.write_held_dir.new.subtx c.write_held_dir.new.pages) (view_over g.target.before (local c.args.subtx.now c.lock.new.pages)) c.read_held_dir-dir.result.now c.page_with_new_places-page.result c.of-places.result.first c.of-places.result.count places has reads writes more in
+    subst (λ (s : SplitFields). GoesOn g.target (local c.write_held_dir.new.subtx c.write_held_dir.new.pages) c.args.split.now (record s { phase = SplitPhase.InPlace (c.args.place + 1) c.args.end })) (sym c.split.view_is) goes

@@ -21,5 +21,5 @@ pub returns : goal.returns
 returns g c =
     record {
       directory = directory_read g.P.Pseudo.bits_of (fields_of c.args.self.now) c.requires.sound c.args.place c.clean_head-head.result.now c.clean_head-head.ensures.head
-          c.dir.result c.dir.ensures c.in-Dir.directory (option_copied c.clean_page.result) c.clean_page.ensures.clean (ap option_copied c.in-Some.is ∙ ap Some c.in-Dir.is);
+          c.dir.result c.dir.ensures c.get.result.now (option_copied c.clean_page.result) c.clean_page.ensures.clean (ap option_copied c.in-Some.is ∙ ap Some c.in-Dir.is ∙ ap (λ directory. Some (Page.Dir directory)) (sym c.get.ensures));
     }

@@ -14,4 +14,4 @@ unreachable-requires-in_default-page g c =
 
 pub returns : goal.returns
 returns g c =
-    record { head = head_read g.P.Pseudo.bits_of (fields_of c.args.self.now) c.requires.sound c.in-Head.head (option_copied c.clean_page.result) c.clean_page.ensures.clean (ap option_copied c.in-Some.is ∙ ap Some c.in-Head.is) }
+    record { head = head_read g.P.Pseudo.bits_of (fields_of c.args.self.now) c.requires.sound c.get.result.now (option_copied c.clean_page.result) c.clean_page.ensures.clean (ap option_copied c.in-Some.is ∙ ap Some c.in-Head.is ∙ ap (λ head. Some (Page.Head head)) (sym c.get.ensures)) }

@@ -1,0 +1,10 @@
+use Rattle.std.proofs.Common.{refl}
+use Rattle.mlt_hash_access.proofs.Names.{local}
+use Rattle.mlt_hash_access.proofs.Leaving.{leaves_it}
+use Rattle.mlt_hash_access.proofs.pages.make_dir_page.Goals as goal
+
+pub returns-then-is_full-clause-leaves : goal.returns-then-is_full-clause-leaves
+returns-then-is_full-clause-leaves c = leaves_it (local c.args.subtx.now c.args.pages.now) _ c.requires.may refl
+
+pub returns-in_err-page-clause-leaves : goal.returns-in_err-page-clause-leaves
+returns-in_err-page-clause-leaves c = leaves_it (local c.args.subtx.now c.args.pages.now) _ c.requires.may refl
