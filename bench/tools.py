@@ -14,12 +14,14 @@ from machine import HERE, Failed, Words, run
 # The C programs of this folder, by their names, and the libraries that each wants.
 BUILT: dict[str, list[str]] = {
     "load": [], "clients": ["-pthread"], "echo": ["-pthread"], "accounts": ["-lsqlite3"], "writers": ["-lsqlite3", "-pthread"],
+    "smallbank": ["-pthread"],
 }
 # What is wanted for each of them, and for what else the benchmarks look for.
 WANTED_FOR = {
     "load": "the C compiler cc",
     "clients": "the C compiler cc",
     "echo": "the C compiler cc",
+    "smallbank": "the C compiler cc",
     "accounts": "the C compiler cc and the library sqlite3 with its header",
     "writers": "the C compiler cc and the library sqlite3 with its header",
     "redis-server": "redis-server",

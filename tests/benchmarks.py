@@ -194,6 +194,22 @@ def writers_tell_what_the_file_keeps(mltx: Program) -> None:
     holds(told["seconds"] >= 0.2 and told["median"] >= 2_000, f"{told}")
 
 
+@test(seconds=1)
+def smallbank_tells_what_the_server_keeps(mltx: Program) -> None:
+    """Of 200 transactions of four clients those commit of which it does not say that they were aborted. Accounts hold so little
+    that some are."""
+    if not shutil.which("cc"):
+        return
+    with mltx.serve(limit=6, address=(LOCAL, 0)) as server:
+        server.address = LOCAL, int(server.first_line().rpartition(":")[2])
+        server.talk("begin\n" + "".join(f"open {it}\ndeposit {it} 60\n" for it in range(20)) + "commit\n")
+        words = ["--clients", "4", "--customers", "10", "--hot", "2", "--transactions", "200", "--seconds", str(PATIENCE)]
+        told = load(mltx, server.address[1], *words, name="smallbank")
+        number = server.talk("begin\ncommit\n").decode().split()[-1]
+    same((told["transactions"], int(number)), (200, 2 + 200 - told["aborted"]), f"what it tells, {told}, and the last commit")
+    holds(0 < told["aborted"] < 200, "nothing, or all, is aborted")
+
+
 class GivesUp(socketserver.StreamRequestHandler):
     """A server that answers two tries of each transaction with GaveUp, and keeps what it heard, each with the time."""
 
