@@ -22,6 +22,7 @@ WANTED_FOR = {
     "clients": "the C compiler cc",
     "echo": "the C compiler cc",
     "smallbank": "the C compiler cc",
+    "rt": "the Rattle kit, and git",
     "accounts": "the C compiler cc and the library sqlite3 with its header",
     "writers": "the C compiler cc and the library sqlite3 with its header",
     "redis-server": "redis-server",
@@ -48,6 +49,7 @@ def look_for_tools(folder: Path) -> Tools:
         if _builds(HERE / f"{name}.c", folder / name, libraries):
             tools.paths[name] = folder / name
     elsewhere = {"redis-server": _which("redis-server"), "postgres": postgres.find(folder), "instructions": counter()}
+    elsewhere["rt"] = _which("rt")
     tools.paths |= {name: path for name, path in elsewhere.items() if path}
     return tools
 

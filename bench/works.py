@@ -62,12 +62,16 @@ class Sample:
     more: dict[str, float] = field(default_factory=dict)
 
 
+# What measures a program once.
+Measure = Callable[[Bench, Path], Sample]
+
+
 @dataclass(frozen=True)
 class Side:
     """One side of a comparison: it measures a program once, and needs these tools."""
 
     name: str
-    measure: Callable[[Bench, Path], Sample]
+    measure: Measure
     needs: tuple[str, ...] = ()
 
 
@@ -80,8 +84,11 @@ class Work:
     unit: str
     sides: tuple[Side, ...]
     most_runs: int = 1_000
-    # Where it belongs to the plot: how many clients it has.
+    # Where it belongs to the plot of its group: how many clients it has, and what stands before the names of its curves.
     plotted_at: int | None = None
+    plotted_as: str = ""
+    # What is put into the crates first, where it is not the program that is measured.
+    patch: str = ""
 
 
 class Group(NamedTuple):

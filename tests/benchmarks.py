@@ -23,7 +23,7 @@ INTERRUPTED = (
     (signal.SIGINT, "held", "serve 127.0.0.1"),
 )
 # Groups that need more than a C compiler and this program.
-NEED_MORE = {"instructions"}
+NEED_MORE = {"instructions", "ablation"}
 # Where the load generator looks for a server.
 LOCAL = "127.0.0.1"
 # The cells of each line of a table.
@@ -108,7 +108,7 @@ def each_benchmark_runs_through(mltx: Program) -> None:
     check_csv(mltx.folder / "results", rows(ran.stdout))
     check_hotspots([cells for cells in rows(ran.stdout) if cells[0].startswith("hotspots: ")], left_out)
     if shutil.which("cc"):
-        drawn = [cells for cells in rows(ran.stdout) if ": 64 clients, a hot counter, 2 ms" in cells[0]]
+        drawn = [cells for cells in rows(ran.stdout) if cells[0].startswith("hotspots: 64 clients, a hot counter, 2 ms")]
         check_plot(Picture(plot.read_text()), drawn)
     same(list(mltx.folder.glob("mltx-bench-*")), [], "the folders that are left behind")
 
@@ -208,6 +208,14 @@ def smallbank_tells_what_the_server_keeps(mltx: Program) -> None:
         number = server.talk("begin\ncommit\n").decode().split()[-1]
     same((told["transactions"], int(number)), (200, 2 + 200 - told["aborted"]), f"what it tells, {told}, and the last commit")
     holds(0 < told["aborted"] < 200, "nothing, or all, is aborted")
+
+
+@test
+def the_patch_of_the_ablation_fits(_mltx: Program) -> None:
+    """It can be put into the crates as they are."""
+    if shutil.which("git"):
+        ran = subprocess.run(["git", "apply", "--check", "bench/ablation.diff"], cwd=ROOT, capture_output=True, text=True)
+        same((ran.returncode, ran.stderr), (0, ""), "git apply --check")
 
 
 class GivesUp(socketserver.StreamRequestHandler):

@@ -253,6 +253,26 @@ def figures_are_those_that_were_measured(_mltx: Program) -> None:
 
 
 @test
+def figures_of_the_ablation_are_those_that_were_measured(_mltx: Program) -> None:
+    """The picture has the rates of 64 clients that think, and PERFORMANCE those of 32 that withdraw from one account."""
+    rows = list(csv.DictReader((ROOT / "bench/results/ablation.csv").read_text().splitlines()))
+
+    def rates(clients: int, work: str) -> dict[str, str]:
+        found = [row for row in rows if row["workload"].startswith(f"{clients} clients, {work}") and ", 2 ms" in row["workload"]]
+        own = {"replies": f"{float(found[0]['value']):,.0f}"}
+        return own | {row["compared with"]: f"{float(row['other value']):,.0f}" for row in found}
+
+    works = {"account": "a hot account", "SmallBank": "SmallBank"}
+    wanted = {f"{name}, {rule}": rate for name, work in works.items() for rule, rate in rates(64, work).items()}
+    drawn = dict(re.findall(r">(\w+, [\w/]+): ([\d,]+)<", (ROOT / "docs/pictures/ablation.svg").read_text()))
+    same(drawn, wanted, "the figures in the picture")
+    said = match(r"account and think commit ([\d,]+) .*? replies, and ([\d,]+) without", " ".join(
+        (ROOT / "docs/PERFORMANCE.md").read_text().split()))
+    account = rates(32, "a hot account")
+    same(said.groups(), (account["replies"], account["operations"]), "PERFORMANCE")
+
+
+@test
 def the_text_of_the_headline_is_that_of_its_files(_mltx: Program) -> None:
     """HEADLINE is what tools/headline-lines makes of the definitions. One that was changed in its file alone fails."""
     is_written_by(ROOT / "docs/HEADLINE.md", "headline-lines", "--text")
