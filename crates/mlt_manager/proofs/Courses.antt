@@ -2,24 +2,26 @@
 use Rattle.std.proofs.Common.{◌≡◌, ◌≢◌, ℕ, ◌+◌, List, [], ◌∷◌, ◌++◌, length, true, false, Option, None, Some, Contains, is_some, unwrap_or, Ok, Err, refl, sym, ap, subst, ◌∙◌, append_assoc, append-nil, length-append, arith, nat_cmp}
 use Rattle.std.specs.FinMap as map
 use Rattle.std.specs.FinSet as set
-use Rattle.mlt_manager.proofs.Names.{not_true, false≢true, Base, Limits, Refusal, ObjOp, ObjReply, Step, empty_base, TraceItem, entries_of, Request, Do, OperationFields, WalkContext, context_by, local, Answer, Event, Told, SharedState, At, Transaction, TellsAt, Table, IsPending, IsUndoing, KeepsImage, image_of, Page, GivesPseudokeys, inserted_here, inserted_elsewhere, removed_here, FitsAt, State, images_kept, state_of, HasCalled, HasEnded, HasStepped, IsOpenAt, txs_after, counted, ChangesOpen, LeavesBase, StepsBy, StepsUpTo, DropsIfItStands, HasRun, LetsGoOn, Stops, GoesOnBack, StopsBack, IsManager, ManagerFields, IsRun, Meets, Transcripts, transcripts_of, UndoneTo, lists_by}
-use Rattle.mlt_object_base.specs.declared.request.Request.TheVariants.{TakeBack}
+use Rattle.mlt_manager.proofs.Names.{not_true, false≢true, Limits, Refusal, ObjOp, ObjReply, Step, TraceItem, entries_of, Request, OperationFields, WalkContext, context_by, LocalState, local, Answer, Event, Told, SharedState, At, Transaction, TellsAt, Table, IsPending, IsUndoing, KeepsImage, image_of, Page, inserted_here, inserted_elsewhere, removed_here, FitsAt, State, images_kept, state_of, HasCalled, HasEnded, HasStepped, IsOpenAt, txs_after, counted, ChangesOpen, LeavesBase, StepsBy, StepsUpTo, DropsIfItStands, HasRun, LetsGoOn, Stops, GoesOnBack, StopsBack, IsManager, ManagerFields, Meets, lists_by}
 use Rattle.mlt_order.specs.Histories.{Lists, after_entries, after_entry, lists_of, no_lists}
-use Rattle.mlt_order.{specs.Runs.IsSerialBase, specs.Tables.table_with, proofs.Tables.at_each, proofs.Tables.with_entry-other, proofs.Tables.with_entry-same}
+use Rattle.mlt_order.{specs.Tables.table_with, proofs.Tables.at_each, proofs.Tables.with_entry-other, proofs.Tables.with_entry-same}
 use Rattle.mlt_trace.{proofs.ItemLaws.transcripts_counted, specs.Entries.entry_of}
 use Rattle.mlt_trace_check.proofs.Histories.{nothing_of_others}
 use Rattle.mlt_tx.specs.{OpenAt.IsNotIdle, Tables.CallsNone, Tables.CancelsOne}
-use Rattle.mlt_types.specs.declared.refusal.Refusal.TheVariants.{IdsSpent, LogFull, OutOfMemory, TooManyOpen}
+use Rattle.mlt_hash.specs.Walks.{WalkFields, context_after, one_key}
+use Rattle.mlt_tx_operation.specs.{Answers.CauseAtOne, Answers.CauseBy, declared.access_path.AccessPath.AccessPath, declared.access_path.AccessPath.TheVariants.One, declared.access_path.AccessPath.TheVariants.Two}
+use Rattle.mlt_tx_two_records.specs.{WidePass.CauseAtOwn, WidePass.CauseAtSize, declared.two_records.TwoRecordWalk.TheVariants.First, declared.two_records.TwoRecordWalk.TheVariants.Owing, declared.two_records.TwoRecordWalk.TheVariants.Wide, declared.two_records.WideStage.WideStage}
+use Rattle.mlt_types.specs.declared.refusal.Refusal.TheVariants.{IdsSpent, LogFull, NoRoom, OutOfMemory, TooManyOpen}
 use Rattle.mlt_manager_invariant.proofs.Tables.{removed_elsewhere}
-use Rattle.mlt_manager.specs.Answers.{HasBegun, HasBegunAbort, HasClosed, HasCommitted, IsCauseAtBegin, IsCauseAtCallOf, IsCauseAtCancel, IsCauseAtStep, IsIdle}
-use Rattle.mlt_manager.specs.Courses.{Course, IsBusy, IsSerializable, KeepsPromiseOver, Life, Ops, Tells, TellsAll, Turns, opening_course}
-use Rattle.mlt_manager.{specs.Events.Plays, specs.Headline.KeepsMainPromise, specs.Undoings.IsCauseAtUndo, specs.Undoings.IsNotUndoing, proofs.Chains.steps_keep, proofs.Called.one_there, proofs.Called.pending_of, proofs.Called.was_idle, proofs.Called.was_with, proofs.Headline.same_transcripts, proofs.Keeping.counted_keeps, proofs.Promises.committed_alone, proofs.Promises.open_taken_back, proofs.Promises.serial, proofs.Stepped.step_keeps, proofs.UndoingAll.undoing_of_at, proofs.WholeBases.same_request}
-use Rattle.mlt_manager.proofs.Kept.{abort_kept, begin_kept, call_kept, cancel_kept, commit_kept, new_kept, step_kept, whole_kept, whole_undo_kept}
+use Rattle.mlt_manager.specs.Answers.{HasBegun, HasBegunAbort, HasClosed, HasCommitted, IsCauseAtBegin, IsCauseAtCallOf, MayCallOne, IsCauseAtCancel, IsCauseAtStep, IsIdle}
+use Rattle.mlt_manager.specs.Courses.{Course, IsBusy, AddsItems, HasAdded, Life, Ops, Tells, TellsAll, Turns, MayRefuseCall, asked_op, committed_by, course_of, life_at, life_in, ops_in, opening_course, reason_at}
+use Rattle.mlt_manager.{specs.Openings.IsNew, specs.Undoings.IsCauseAtUndo, specs.Undoings.IsNotUndoing, proofs.Chains.steps_keep, proofs.Called.one_there, proofs.Called.pending_of, proofs.Called.was_idle, proofs.Called.was_with, proofs.Stepped.step_keeps, proofs.UndoingAll.undoing_of_at, proofs.WholeBases.same_request}
+use Rattle.mlt_manager.proofs.Kept.{abort_kept, begin_kept, call_kept, cancel_kept, commit_kept, step_kept, whole_kept, whole_undo_kept}
 
 -- ## Tables
 
 -- tables with the same entries are one
-alike : {X : Type 0} (f g : ℕ → X) → ((j : ℕ) → f j ≡ g j) → f ≡ g
+pub alike : {X : Type 0} (f g : ℕ → X) → ((j : ℕ) → f j ≡ g j) → f ≡ g
 alike f g same i j = same j i
 
 module _ {X : Type 0} (f : ℕ → X) (tx : ℕ) where
@@ -62,31 +64,8 @@ module _ (c : Course) (tx : ℕ) where
 
 -- ## The course of a manager
 
-abbrev asked_op : Request → ObjOp
-asked_op (Do op) = op
-asked_op (TakeBack item) = item.0
-
-abbrev life_at : At → Life
-life_at At.Idle = Life.Idle
-life_at (At.Pending o) = Life.Pending (asked_op o.request)
-life_at (At.Undoing inverting) = Life.Undoing
-
-abbrev life_in : Option Transaction → Life
-life_in None = Life.NotOpen
-life_in (Some t) = life_at t.at
-
-abbrev ops_in : Option Transaction → Ops
-ops_in None = []
-ops_in (Some t) = t.undo.entries
-
-abbrev committed_by : List TraceItem → List Ops
-committed_by items = (lists_of (entries_of items)).committed
-
-abbrev pub course_of : {P : Type 0} → ManagerFields P → Course
-course_of m = record { begun = m.begun; committed = committed_by m.shared.history.items; life = λ tx. life_in (map.get m.txs tx); ops = λ tx. ops_in (map.get m.txs tx) }
-
 -- what is committed after more items
-lists_on : (items here : List TraceItem) (lists : Lists (ObjOp × ObjReply)) → after_entries lists (entries_of (items ++ here)) ≡ after_entries (after_entries lists (entries_of items)) (entries_of here)
+pub lists_on : (items here : List TraceItem) (lists : Lists (ObjOp × ObjReply)) → after_entries lists (entries_of (items ++ here)) ≡ after_entries (after_entries lists (entries_of items)) (entries_of here)
 lists_on [] here lists = refl
 lists_on (item ∷ items) here lists = lists_on items here (after_entry lists (entry_of item))
 
@@ -164,6 +143,32 @@ busy_by (At.Undoing inverting) life was not = (
   (λ is. let both : Life.Undoing ≡ Life.Idle = sym was ∙ is in absurd cc),
 )
 
+-- why an operation is refused: there is no room, or no memory
+abbrev IsForRoom : Refusal → Type 0
+IsForRoom reason = Contains (NoRoom ∷ OutOfMemory ∷ []) reason
+
+refused_on_one : (reason : Refusal) (context : WalkContext) (old mid : LocalState) (request : Request) (walk : WalkFields) → CauseAtOne reason context old mid request walk → IsForRoom reason
+refused_on_one Refusal.NoRoom context old mid request walk cause = (0, omega arith, refl)
+refused_on_one Refusal.OutOfMemory context old mid request walk cause = (1, omega arith, refl)
+refused_on_one other context old mid request walk none = absurd none
+
+refused_on_own : (reason : Refusal) (context : WalkContext) (old mid : LocalState) (walk : WalkFields) → CauseAtOwn reason context old mid walk → IsForRoom reason
+refused_on_own Refusal.NoRoom context old mid walk cause = (0, omega arith, refl)
+refused_on_own Refusal.OutOfMemory context old mid walk cause = (1, omega arith, refl)
+refused_on_own other context old mid walk none = absurd none
+
+refused_on_size : (reason : Refusal) (context : WalkContext) (old mid : LocalState) (walk : WalkFields) → CauseAtSize reason context old mid walk → IsForRoom reason
+refused_on_size Refusal.NoRoom context old mid walk cause = (0, omega arith, refl)
+refused_on_size Refusal.OutOfMemory context old mid walk cause = (1, omega arith, refl)
+refused_on_size other context old mid walk none = absurd none
+
+refused_for : (reason : Refusal) (context : WalkContext) (old mid : LocalState) (path : AccessPath) (request : Request) → CauseBy path reason context old mid request → IsForRoom reason
+refused_for reason context old mid (One walk) request cause = refused_on_one reason context old mid request walk cause
+refused_for reason context old mid (Two (First pair)) request none = absurd none
+refused_for reason context old mid (Two (Owing pair reply)) request none = absurd none
+refused_for reason context old mid (Two (Wide WideStage.Own walk)) request cause = refused_on_own reason (one_key context) old mid walk cause
+refused_for reason context old mid (Two (Wide WideStage.Size walk)) request (since, put, cause) = refused_on_size reason (context_after since context) old mid walk cause
+
 -- what a step makes of the course, by what the transaction was at
 module _ (c d : Course) (tx : ℕ) (context : WalkContext) (before after : Transaction) (old new : SharedState) (stood : c.ops tx ≡ before.undo.entries) where
   abbrev StepTurns : Answer → At → Type 0
@@ -191,9 +196,12 @@ module _ (c d : Course) (tx : ℕ) (context : WalkContext) (before after : Trans
             (done.1.entries ∙ (λ i. before.undo.entries ++ (s.tells.op, sym done.0 i) ∷ []) ∙ ap (λ (l : Ops). l ++ (s.tells.op, reply) ∷ []) (sym stood)) turns,
       )
   step_row (At.Pending o) (Answer.Refused reason) s turns = (
-    asked_op o.request,
-    turns_as c tx (life_at (At.Pending o)) (Life.Pending (asked_op o.request)) (life_at after.at) Life.Idle after.undo.entries (c.ops tx) d
-        refl (ap life_at s.now_at) ((λ i. (s.tells.rest.undo_kept i).entries) ∙ sym stood) turns,
+    refused_for reason context (local before.subtx old.pages) s.tells.tells.back.mid o.access_path o.request s.tells.tells.cause,
+    (
+      asked_op o.request,
+      turns_as c tx (life_at (At.Pending o)) (Life.Pending (asked_op o.request)) (life_at after.at) Life.Idle after.undo.entries (c.ops tx) d
+          refl (ap life_at s.now_at) ((λ i. (s.tells.rest.undo_kept i).entries) ∙ sym stood) turns,
+    ),
   )
   step_row (At.Pending o) Answer.Undone s turns = absurd s.tells
   step_row (At.Pending o) Answer.Aborted s turns = absurd s.tells
@@ -273,7 +281,8 @@ module _ {P : Type 0} (bits_of : P → ℕ → ℕ) (tx : ℕ) where
   whole_row (Answer.Blocked by) c k stopped m' op calls row stops drops =
       dropped c (course_of stopped) (course_of m') op (subst (Turns c tx Life.Idle (Life.Pending op) (c.ops tx)) (sym row.2) calls) (cancel_course stopped m' drops.pending drops.cancels drops.rest)
   whole_row (Answer.Refused reason) c k stopped m' op calls row stops same =
-      subst (λ (n : ManagerFields P). (c.life tx ≡ Life.Idle) × (course_of n ≡ c)) (sym same) (dropped c k (course_of stopped) op calls row)
+      let same_there = subst (λ (n : ManagerFields P). (c.life tx ≡ Life.Idle) × (course_of n ≡ c)) (sym same) (dropped c k (course_of stopped) op calls row.1) in
+      (row.0, same_there.0, same_there.1)
   whole_row Answer.Going c k stopped m' op calls row none same = absurd none
   whole_row Answer.Undone c k stopped m' op calls row none same = absurd none
   whole_row Answer.Aborted c k stopped m' op calls row none same = absurd none
@@ -442,16 +451,25 @@ module _ (txs : Table) (tx : ℕ) where
   pending_here : IsOpenAt txs tx IsPending → (op : ObjOp) × (here ≡ Life.Pending op)
   pending_here there = let o = pending_of there.one.at there.is_at in (asked_op o.0.request, ap life_in there.there ∙ ap life_at o.1)
 
-  not_busy : (reason : Refusal) → IsCauseAtStep reason txs tx → IsBusy here → ⊥
-  not_busy Refusal.NoSuchTx none busy = busy.0 (ap life_in none)
-  not_busy Refusal.NotRunning there busy = busy.1 (idle_here there)
-  not_busy other none busy = absurd none
+  no_such : (e : Event) → map.get txs tx ≡ None → Refusal.NoSuchTx ≡ reason_at here e
+  no_such e none = ap (λ l. reason_at l e) (sym (ap life_in none))
 
-  not_pending : (reason : Refusal) → IsCauseAtCancel reason txs tx → (op : ObjOp) → here ≡ Life.Pending op → ⊥
-  not_pending Refusal.NoSuchTx none op is = let both : Life.NotOpen ≡ Life.Pending op = sym (ap life_in none) ∙ is in absurd cc
-  not_pending Refusal.Undoing there op is = let both : Life.Undoing ≡ Life.Pending op = sym (undoing_here there) ∙ is in absurd cc
-  not_pending Refusal.NotRunning there op is = let both : Life.Idle ≡ Life.Pending op = sym (idle_here there) ∙ is in absurd cc
-  not_pending other none op is = absurd none
+  not_running : (e : Event) → here ≡ Life.Idle → Refusal.NotRunning ≡ reason_at here e
+  not_running e is = ap (λ l. reason_at l e) (sym is)
+
+  in_abort : (e : Event) → IsOpenAt txs tx IsUndoing → Refusal.Undoing ≡ reason_at here e
+  in_abort e there = ap (λ l. reason_at l e) (sym (undoing_here there))
+
+  not_busy : (reason : Refusal) → IsCauseAtStep reason txs tx → (IsBusy here → ⊥) × (reason ≡ reason_at here (Event.Step tx))
+  not_busy Refusal.NoSuchTx none = ((λ busy. busy.0 (ap life_in none)), no_such (Event.Step tx) none)
+  not_busy Refusal.NotRunning there = ((λ busy. busy.1 (idle_here there)), not_running (Event.Step tx) (idle_here there))
+  not_busy other none = absurd none
+
+  not_pending : (reason : Refusal) → IsCauseAtCancel reason txs tx → ((op : ObjOp) → here ≡ Life.Pending op → ⊥) × (reason ≡ reason_at here (Event.Cancel tx))
+  not_pending Refusal.NoSuchTx none = ((λ op is. let both : Life.NotOpen ≡ Life.Pending op = sym (ap life_in none) ∙ is in absurd cc), no_such (Event.Cancel tx) none)
+  not_pending Refusal.Undoing there = ((λ op is. let both : Life.Undoing ≡ Life.Pending op = sym (undoing_here there) ∙ is in absurd cc), in_abort (Event.Cancel tx) there)
+  not_pending Refusal.NotRunning there = ((λ op is. let both : Life.Idle ≡ Life.Pending op = sym (idle_here there) ∙ is in absurd cc), not_running (Event.Cancel tx) (idle_here there))
+  not_pending other none = absurd none
 
   not_idle : (reason : Refusal) → IsNotIdle reason txs tx → here ≡ Life.Idle → ⊥
   not_idle Refusal.NoSuchTx none is = let both : Life.NotOpen ≡ Life.Idle = sym (ap life_in none) ∙ is in absurd cc
@@ -459,29 +477,75 @@ module _ (txs : Table) (tx : ℕ) where
   not_idle Refusal.Running there is = let p = pending_here there in (let both : Life.Pending p.0 ≡ Life.Idle = sym p.1 ∙ is in absurd cc)
   not_idle other none is = absurd none
 
-  not_undoing : (reason : Refusal) → IsCauseAtUndo reason txs tx → here ≡ Life.Undoing → ⊥
-  not_undoing Refusal.NoSuchTx none is = let both : Life.NotOpen ≡ Life.Undoing = sym (ap life_in none) ∙ is in absurd cc
-  not_undoing Refusal.NotRunning there is = not_undoing_at there.one.at there.is_at (sym (ap life_in there.there) ∙ is)
-  not_undoing other none is = absurd none
+  -- why an event is refused that is for an idle one, where that is said in the same words for each other life
+  module _ (e : Event) (running : (op : ObjOp) → reason_at (Life.Pending op) e ≡ Refusal.Running) where
+    reason_not_idle : (reason : Refusal) → IsNotIdle reason txs tx → reason ≡ reason_at here e
+    reason_not_idle Refusal.NoSuchTx none = no_such e none
+    reason_not_idle Refusal.Undoing there = in_abort e there
+    reason_not_idle Refusal.Running there = let p = pending_here there in sym (ap (λ l. reason_at l e) p.1 ∙ running p.0)
+    reason_not_idle other none = absurd none
 
-  call_refused : (max_ops : ℕ) (reason : Refusal) → IsCauseAtCallOf reason txs tx max_ops → here ≡ Life.Idle → Contains (LogFull ∷ OutOfMemory ∷ []) reason
-  call_refused max_ops Refusal.LogFull cause is = (0, omega arith, refl)
-  call_refused max_ops other cause is = absurd (not_idle other cause is)
+    refused_at : (reason : Refusal) (life : Life) → (life ≡ Life.Idle → ⊥) → reason ≡ reason_at life e → MayRefuseCall life e reason
+    refused_at reason Life.Idle not is = absurd (not refl)
+    refused_at reason Life.NotOpen not is = is
+    refused_at reason (Life.Pending op) not is = is
+    refused_at reason Life.Undoing not is = is
 
-no_memory : Contains (LogFull ∷ OutOfMemory ∷ []) OutOfMemory
-no_memory = (1, omega arith, refl)
+    call_refused : (max_ops : ℕ) (reason : Refusal) → IsCauseAtCallOf reason txs tx max_ops → MayRefuseCall here e reason
+    call_refused max_ops Refusal.LogFull (count, one, full) = subst (λ l. MayRefuseCall l e LogFull) (sym (ap life_in one.there ∙ ap life_at one.idle)) (0, omega arith, refl)
+    call_refused max_ops other cause = refused_at other here (not_idle other cause) (reason_not_idle other cause)
+
+    call_no_memory : (max_ops : ℕ) → MayCallOne txs tx max_ops → MayRefuseCall here e OutOfMemory
+    call_no_memory max_ops (count, one, room) = subst (λ l. MayRefuseCall l e OutOfMemory) (sym (ap life_in one.there ∙ ap life_at one.idle)) (1, omega arith, refl)
+
+  not_undoing_reason : (a : At) → IsNotUndoing a → Refusal.NotRunning ≡ reason_at (life_at a) (Event.WholeUndo tx)
+  not_undoing_reason At.Idle is = refl
+  not_undoing_reason (At.Pending o) is = refl
+  not_undoing_reason (At.Undoing inverting) none = absurd none
+
+  not_undoing : (reason : Refusal) → IsCauseAtUndo reason txs tx → (here ≡ Life.Undoing → ⊥) × (reason ≡ reason_at here (Event.WholeUndo tx))
+  not_undoing Refusal.NoSuchTx none = ((λ is. let both : Life.NotOpen ≡ Life.Undoing = sym (ap life_in none) ∙ is in absurd cc), no_such (Event.WholeUndo tx) none)
+  not_undoing Refusal.NotRunning there = (
+    (λ is. not_undoing_at there.one.at there.is_at (sym (ap life_in there.there) ∙ is)),
+    not_undoing_reason there.one.at there.is_at ∙ ap (λ l. reason_at l (Event.WholeUndo tx)) (sym (ap life_in there.there)),
+  )
+  not_undoing other none = absurd none
 
 -- ## Runs
 
+-- **An event more.**
+pub tells_on : (c d d' : Course) (events : List Event) (tolds : List Told) (items items' : List TraceItem) (e : Event) (t : Told) → TellsAll c events tolds d items → Tells d e t d' → HasAdded d e t d' items items'
+    → TellsAll c (events ++ e ∷ []) (tolds ++ t ∷ []) d' items'
+tells_on c d d' [] [] items items' e t (same, none) tells (here, is, adds) = (
+  d',
+  subst (λ (x : Course). Tells x e t d') same tells,
+  here,
+  subst (λ (x : Course). AddsItems x e t d' here) same adds,
+  [],
+  is ∙ ap (λ l. l ++ here) none ∙ sym (append-nil here),
+  (refl, refl),
+)
+tells_on c d d' [] (told ∷ tolds) items items' e t none tells adds = absurd none
+tells_on c d d' (event ∷ events) [] items items' e t none tells adds = absurd none
+tells_on c d d' (event ∷ events) (told ∷ tolds) items items' e t (next, first, at_first, added, later, is, rest) tells (here, more, adds) = (
+  next,
+  first,
+  at_first,
+  added,
+  later ++ here,
+  more ∙ ap (λ l. l ++ here) is ∙ append_assoc at_first later here,
+  tells_on next d d' events tolds later (later ++ here) e t rest tells (here, refl, adds),
+)
+
 module _ {P : Type 0} (bits_of : P → ℕ → ℕ) where
   -- **What an event makes of the course.**
-  event_course : (m m' : ManagerFields P) → IsManager bits_of m → (e : Event) (t : Told) → Meets bits_of e t m m' → Tells (course_of m) e t (course_of m') × IsManager bits_of m'
+  pub event_course : (m m' : ManagerFields P) → IsManager bits_of m → (e : Event) (t : Told) → Meets bits_of e t m m' → Tells (course_of m) e t (course_of m') × IsManager bits_of m'
   event_course m m' h Event.Begin (Told.Begun tx) a = (begin_course bits_of m m' h tx a, begin_kept bits_of m m' h (Ok tx) a)
   event_course m m' h Event.Begin (Told.Refused reason) a = ((begin_refused m reason a.0, ap course_of a.1), begin_kept bits_of m m' h (Err reason) a)
   event_course m m' h Event.Begin other none = absurd none
   event_course m m' h (Event.Call tx op) Told.Called a = (call_course bits_of tx m m' op a, call_kept bits_of m m' h tx op (Ok tt) a)
-  event_course m m' h (Event.Call tx op) (Told.Refused Refusal.OutOfMemory) a = ((λ is. no_memory, not_called_course bits_of m m' h tx a.1 a.2), call_kept bits_of m m' h tx op (Err Refusal.OutOfMemory) a)
-  event_course m m' h (Event.Call tx op) (Told.Refused reason) a = ((call_refused m.txs tx m.max_ops reason a.0, ap course_of a.1), call_kept bits_of m m' h tx op (Err reason) a)
+  event_course m m' h (Event.Call tx op) (Told.Refused Refusal.OutOfMemory) a = ((call_no_memory m.txs tx (Event.Call tx op) (λ o. refl) m.max_ops a.0, not_called_course bits_of m m' h tx a.1 a.2), call_kept bits_of m m' h tx op (Err Refusal.OutOfMemory) a)
+  event_course m m' h (Event.Call tx op) (Told.Refused reason) a = ((call_refused m.txs tx (Event.Call tx op) (λ o. refl) m.max_ops reason a.0, ap course_of a.1), call_kept bits_of m m' h tx op (Err reason) a)
   event_course m m' h (Event.Call tx op) other none = absurd none
   event_course m m' h (Event.Step tx) (Told.Answered told) (a, leaves, named) = (step_course bits_of tx m m' told a leaves, step_kept bits_of m m' h tx (Ok told) a)
   event_course m m' h (Event.Step tx) (Told.Refused reason) a = ((not_busy m.txs tx reason a.0, ap course_of a.1), step_kept bits_of m m' h tx (Err reason) a)
@@ -490,22 +554,22 @@ module _ {P : Type 0} (bits_of : P → ℕ → ℕ) where
   event_course m m' h (Event.Cancel tx) (Told.Refused reason) a = ((not_pending m.txs tx reason a.0, ap course_of a.1), cancel_kept bits_of m m' h tx (Err reason) a)
   event_course m m' h (Event.Cancel tx) other none = absurd none
   event_course m m' h (Event.Commit tx) (Told.Committed number) a = (commit_course bits_of m m' h tx number a, commit_kept bits_of m m' h tx (Ok number) a)
-  event_course m m' h (Event.Commit tx) (Told.Refused reason) a = ((not_idle m.txs tx reason a.0, ap course_of a.1), commit_kept bits_of m m' h tx (Err reason) a)
+  event_course m m' h (Event.Commit tx) (Told.Refused reason) a = (((not_idle m.txs tx reason a.0, reason_not_idle m.txs tx (Event.Commit tx) (λ o. refl) reason a.0), ap course_of a.1), commit_kept bits_of m m' h tx (Err reason) a)
   event_course m m' h (Event.Commit tx) other none = absurd none
   event_course m m' h (Event.Abort tx) (Told.Aborting true) a = (close_course bits_of m m' h tx a, abort_kept bits_of m m' h tx (Ok true) a)
   event_course m m' h (Event.Abort tx) (Told.Aborting false) a = (abort_course bits_of m m' h tx a, abort_kept bits_of m m' h tx (Ok false) a)
-  event_course m m' h (Event.Abort tx) (Told.Refused reason) a = ((not_idle m.txs tx reason a.0, ap course_of a.1), abort_kept bits_of m m' h tx (Err reason) a)
+  event_course m m' h (Event.Abort tx) (Told.Refused reason) a = (((not_idle m.txs tx reason a.0, reason_not_idle m.txs tx (Event.Abort tx) (λ o. refl) reason a.0), ap course_of a.1), abort_kept bits_of m m' h tx (Err reason) a)
   event_course m m' h (Event.Abort tx) other none = absurd none
   event_course m m' h (Event.Whole tx op) (Told.Answered told) (a, leaves, named) = (whole_course bits_of tx m m' op told h a, whole_kept bits_of m m' h tx op (Ok told) a)
-  event_course m m' h (Event.Whole tx op) (Told.Refused Refusal.OutOfMemory) a = ((λ is. no_memory, not_called_course bits_of m m' h tx a.1 a.2), whole_kept bits_of m m' h tx op (Err Refusal.OutOfMemory) a)
-  event_course m m' h (Event.Whole tx op) (Told.Refused reason) a = ((call_refused m.txs tx m.max_ops reason a.0, ap course_of a.1), whole_kept bits_of m m' h tx op (Err reason) a)
+  event_course m m' h (Event.Whole tx op) (Told.Refused Refusal.OutOfMemory) a = ((call_no_memory m.txs tx (Event.Whole tx op) (λ o. refl) m.max_ops a.0, not_called_course bits_of m m' h tx a.1 a.2), whole_kept bits_of m m' h tx op (Err Refusal.OutOfMemory) a)
+  event_course m m' h (Event.Whole tx op) (Told.Refused reason) a = ((call_refused m.txs tx (Event.Whole tx op) (λ o. refl) m.max_ops reason a.0, ap course_of a.1), whole_kept bits_of m m' h tx op (Err reason) a)
   event_course m m' h (Event.Whole tx op) other none = absurd none
   event_course m m' h (Event.WholeUndo tx) (Told.Answered told) (a, leaves, named) = (undo_course bits_of tx m m' told h a.0 a.1, whole_undo_kept bits_of m m' h tx (Ok told) a)
   event_course m m' h (Event.WholeUndo tx) (Told.Refused reason) a = ((not_undoing m.txs tx reason a.0, ap course_of a.1), whole_undo_kept bits_of m m' h tx (Err reason) a)
   event_course m m' h (Event.WholeUndo tx) other none = absurd none
 
   -- what stands of an open transaction is what the history says
-  stands_in : (m : ManagerFields P) → IsManager bits_of m → (tx : ℕ) (o : Option Transaction) → map.get m.txs tx ≡ o → (lists_by m).transcripts tx ≡ ops_in o
+  pub stands_in : (m : ManagerFields P) → IsManager bits_of m → (tx : ℕ) (o : Option Transaction) → map.get m.txs tx ≡ o → (lists_by m).transcripts tx ≡ ops_in o
   stands_in m h tx None is =
       nothing_of_others m.shared.history.items h.base h.sound.match.records.history tx
       (λ runs. false≢true (sym (ap is_some is) ∙ sym (h.sound.opened tx) ∙ (h.sound.match.records.running tx).1 runs))
@@ -520,57 +584,16 @@ module _ {P : Type 0} (bits_of : P → ℕ → ℕ) where
   busy_at s tx t page first (At.Pending o) fits own keeps = busy_by (At.Pending o) (life_at (At.Pending o)) refl (λ is. absurd cc)
   busy_at s tx t page first (At.Undoing inverting) fits own keeps = busy_by (At.Undoing inverting) Life.Undoing refl (λ is. absurd cc)
 
-  keeps_busy : (m : ManagerFields P) → IsManager bits_of m → (page : ℕ) (first : Option Page) (image : KeepsImage m.txs page first) → IsBusy (life_in (map.get m.txs image.tx))
+  pub keeps_busy : (m : ManagerFields P) → IsManager bits_of m → (page : ℕ) (first : Option Page) (image : KeepsImage m.txs page first) → IsBusy (life_in (map.get m.txs image.tx))
   keeps_busy m h page first image =
       subst (λ o. IsBusy (life_in o)) (sym image.there)
       (busy_at (state_of bits_of m h.images h.base) image.tx image.one page first image.one.at (h.sound.fits image.tx image.one image.there).where_at (h.sound.kept image.tx ∙ ap images_kept image.there) image.keeps)
 
-  -- a course over which the operations that its history has lead to a base and a state
-  abbrev serializable_by : (m : ManagerFields P) → IsManager bits_of m → (base state : Base) → IsSerialBase Step empty_base (transcripts_of m.shared.history.items).committed base
-      → UndoneTo Step base (transcripts_of m.shared.history.items).of_open state → IsSerializable (course_of m)
-  serializable_by m h base state alone back =
-      let told = same_transcripts m.shared.history.items in
-      record {
-        base = base;
-        alone = subst (λ (t : Transcripts). IsSerialBase Step empty_base t.committed base) told alone;
-        state = state;
-        taken_back = subst (λ f. UndoneTo Step base f state) (alike _ _ (λ tx. ap (λ (t : Transcripts). t.of_open tx) told ∙ stands_in m h tx (map.get m.txs tx) refl)) back;
-      }
-
-  -- **The course of every manager is serializable.**
-  serial_over : (m : ManagerFields P) → IsManager bits_of m → IsSerializable (course_of m)
-  serial_over m h = serializable_by m h (serial bits_of m h).0 h.base (committed_alone bits_of m h) (open_taken_back bits_of m h)
-
-  -- **Every manager keeps the promise over its course.**
-  promise_over : (m : ManagerFields P) → IsManager bits_of m → KeepsMainPromise m → KeepsPromiseOver (course_of m) m
-  promise_over m h main = record {
-    serial = serializable_by m h main.base main.state main.alone main.taken_back;
-    clean = main.clean;
-    put_back = main.put_back;
-    busy = keeps_busy m h;
-    means = main.means;
+  -- **The course of a new manager is the opening one.**
+  pub new_course : (limits : Limits) (pseudo : P) (m : ManagerFields P) → IsNew m limits pseudo → course_of m ≡ opening_course
+  new_course limits pseudo m new i = record {
+    begun = new.begun i;
+    committed = ap committed_by new.items i;
+    life = (ap (read life_in) new.txs ∙ alike _ _ (λ tx. ap life_in (map.get-empty {X = Transaction} nat_cmp tx))) i;
+    ops = (ap (read ops_in) new.txs ∙ alike _ _ (λ tx. ap ops_in (map.get-empty {X = Transaction} nat_cmp tx))) i;
   }
-
-  -- **What a run makes of the course.**
-  run_course : (events : List Event) (tolds : List Told) (m m' : ManagerFields P) → IsManager bits_of m → IsRun bits_of m events tolds m' → TellsAll (course_of m) events tolds (course_of m') × IsManager bits_of m'
-  run_course [] [] m m' h same = (ap course_of same, subst (IsManager bits_of) (sym same) h)
-  run_course (e ∷ es) (t ∷ ts) m m' h (next, meets, rest) =
-      let one = event_course (counted m) next (counted_keeps bits_of m h) e t meets in
-      let more = run_course es ts next m' one.1 rest in
-      ((course_of next, one.0, serial_over next one.1, more.0), more.1)
-  run_course [] (t ∷ ts) m m' h none = absurd none
-  run_course (e ∷ es) [] m m' h none = absurd none
-
-  -- **What events were told, from a new manager, is a course, and the last manager keeps the promise over it.**
-  pub played_course : (limits : Limits) (pseudo : P) (events : List Event) (tolds : List Told) (last : ManagerFields P) → ((p : P) → GivesPseudokeys (bits_of p)) → Plays bits_of limits pseudo events tolds last
-      → (c : Course) × TellsAll opening_course events tolds c × KeepsPromiseOver c last
-  played_course limits pseudo events tolds last keys plays =
-      let new = plays.is_new in
-      let run = run_course events tolds plays.first last (new_kept bits_of plays.first limits pseudo (keys plays.first.root.pseudo) new) plays.run in
-      let opening : course_of plays.first ≡ opening_course = (λ i. record {
-        begun = new.begun i;
-        committed = ap committed_by new.items i;
-        life = (ap (read life_in) new.txs ∙ alike _ _ (λ tx. ap life_in (map.get-empty {X = Transaction} nat_cmp tx))) i;
-        ops = (ap (read ops_in) new.txs ∙ alike _ _ (λ tx. ap ops_in (map.get-empty {X = Transaction} nat_cmp tx))) i;
-      }) in
-      (course_of last, subst (λ (c : Course). TellsAll c events tolds (course_of last)) opening run.0, promise_over last run.1 plays.promises.main)

@@ -1,31 +1,12 @@
--- Every manager keeps the main promise. What it says is what the invariant says, in other words
-use Rattle.mlt_manager.proofs.Names.{zero, false≢true, Cell, Account, Element, Counter, Size, IsInRange, key_number, Base, state_at, ObjOp, ObjReply, Means, state_of_record, entries_of, TraceItem, Page, Slot, bucket_of, IsRecordMap, live_records, Transcripts, transcripts_of}
-use Rattle.std.proofs.Common.{suc, ◌≡◌, ◌<◌, ℕ, Bool, false, List, [], ◌∷◌, length, get_or, Option, None, Some, Contains, fold, unwrap_or, ◌↔◌, refl, sym, ap, subst, ◌∙◌, arith, nat_cmp}
+-- What the pages mean is what the invariant says, in other words
+use Rattle.mlt_manager.proofs.Names.{zero, false≢true, Cell, Account, Element, Counter, Size, IsInRange, key_number, Base, state_at, Means, state_of_record, Page, Slot, bucket_of, IsRecordMap, live_records}
+use Rattle.std.proofs.Common.{suc, ◌≡◌, ◌<◌, ℕ, Bool, false, List, [], ◌∷◌, length, get_or, Option, None, Some, Contains, unwrap_or, ◌↔◌, refl, sym, ap, subst, ◌∙◌, arith, nat_cmp}
 use Rattle.std.specs.FinMap as map
-use Rattle.mlt_order.specs.Histories.{Entry, Lists, after_entries, after_entry, lists_of, no_lists}
 use Rattle.mlt_object_kinds.{specs.Bases.element_at, specs.Bases.size_at, specs.Cells.CellState, specs.Cells.CellState.AccountState, specs.Cells.CellState.ElementState, specs.Cells.CellState.CounterState, proofs.Sizes.size_below}
 use Rattle.mlt_object_base.specs.Records.{counter_of_record}
-use Rattle.mlt_trace.specs.declared.item.TraceItem.TheVariants.{Begin, Op, Back, Commit, Abort}
-use Rattle.mlt_page.specs.declared.slot.Slot.TheVariants.{Free, Live}
-use Rattle.mlt_hash_form.specs.File.{HasRecord}
-use Rattle.mlt_manager.specs.Headline.{HasLiveSlot, HoldsIn, IsRecordOf, PagesMean, after_item}
-
--- ## The transcripts are the lists of the laws of commit order
-
-abbrev of_lists : Lists (ObjOp × ObjReply) → Transcripts
-of_lists lists = record { committed = lists.committed; of_open = lists.transcripts }
-
-same_after : (lists : Lists (ObjOp × ObjReply)) (items : List TraceItem) → fold after_item (of_lists lists) items ≡ of_lists (after_entries lists (entries_of items))
-same_after lists [] = refl
-same_after lists (Begin tx ∷ items) = same_after (after_entry lists (Entry.Begun tx)) items
-same_after lists (Op tx done ∷ items) = same_after (after_entry lists (Entry.Did tx done)) items
-same_after lists (Back tx ∷ items) = same_after (after_entry lists (Entry.TookBack tx)) items
-same_after lists (Commit tx number ∷ items) = same_after (after_entry lists (Entry.Committed tx)) items
-same_after lists (Abort tx ∷ items) = same_after (after_entry lists (Entry.Closed tx)) items
-
--- **A history tells of the same transcripts by its items as by its entries.**
-pub same_transcripts : (items : List TraceItem) → transcripts_of items ≡ of_lists (lists_of (entries_of items))
-same_transcripts items = same_after no_lists items
+use Rattle.mlt_page.specs.{Values.BucketFields, declared.slot.Slot.TheVariants.Free, declared.slot.Slot.TheVariants.Live}
+use Rattle.mlt_hash_form.specs.File.{HasRecord, IsOnceLive}
+use Rattle.mlt_manager.specs.Headline.{HoldsIn, IsLiveAt, IsRecordOf, PagesMean}
 
 -- ## A live slot is a record
 
@@ -42,17 +23,20 @@ same_slot (slot ∷ slots) zero one other within = refl
 same_slot (slot ∷ slots) (suc i) one other within = same_slot slots i one other (omega (arith, within))
 
 module _ (pages : map.FinMap nat_cmp Page) (key value : ℕ) where
-  on_page : (number i : ℕ) (p : Option Page) → map.get pages number ≡ p → get_or (bucket_of p).slots i Free ≡ Live key value → HasLiveSlot pages key value
+  on_page : (number i : ℕ) (p : Option Page) → map.get pages number ≡ p → get_or (bucket_of p).slots i Free ≡ Live key value → IsLiveAt pages number i key value
   on_page number i None there is = (let none : Free ≡ Live key value = is in cc)
   on_page number i (Some (Page.Head header)) there is = (let none : Free ≡ Live key value = is in cc)
   on_page number i (Some (Page.Dir dir)) there is = (let none : Free ≡ Live key value = is in cc)
-  on_page number i (Some (Page.Bucket bucket)) there is = (number, bucket, there, contained bucket.slots i key value is)
+  on_page number i (Some (Page.Bucket bucket)) there is = (bucket, there, is)
 
-  slot_of_record : HasRecord (map.get pages) key value → HasLiveSlot pages key value
-  slot_of_record (number, i, is) = on_page number i (map.get pages number) refl is
+  live_of_record : HasRecord (map.get pages) key value → (number : ℕ) × (i : ℕ) × IsLiveAt pages number i key value
+  live_of_record (number, i, is) = (number, i, on_page number i (map.get pages number) refl is)
 
-  pub record_of_slot : HasLiveSlot pages key value → HasRecord (map.get pages) key value
-  record_of_slot (number, bucket, there, inside) =
+  slot_of_live : (number i : ℕ) → IsLiveAt pages number i key value → get_or (bucket_of (map.get pages number)).slots i Free ≡ Live key value
+  slot_of_live number i (bucket, there, is) = ap (λ (p : Option Page). get_or (bucket_of p).slots i Free) there ∙ is
+
+  pub record_of_slot : (number : ℕ) (bucket : BucketFields) → map.get pages number ≡ Some (Page.Bucket bucket) → Contains bucket.slots (Live key value) → HasRecord (map.get pages) key value
+  record_of_slot number bucket there inside =
       (number, inside.0, ap (λ (p : Option Page). get_or (bucket_of p).slots inside.0 Free) there ∙ same_slot bucket.slots inside.0 Free (Live key value) inside.1 ∙ inside.2)
 
 -- ## What the pages mean
@@ -98,8 +82,8 @@ module _ (base : Base) where
       omega (arith, few)
 
 -- **Where the records of clean pages mean a base, the pages do,**
-pub pages_mean : (pages : map.FinMap nat_cmp Page) (base : Base) → IsRecordMap (live_records pages) (map.get pages) → Means (live_records pages) base → PagesMean pages base
-pages_mean pages base is_map means = record { within = within; beyond = beyond }
+pub pages_mean : (pages : map.FinMap nat_cmp Page) (base : Base) → IsRecordMap (live_records pages) (map.get pages) → IsOnceLive (map.get pages) → Means (live_records pages) base → PagesMean pages base
+pages_mean pages base is_map once means = record { within = within; beyond = beyond }
   where
     records : map.FinMap nat_cmp ℕ
     records = live_records pages
@@ -111,10 +95,13 @@ pages_mean pages base is_map means = record { within = within; beyond = beyond }
     within : (cell : Cell) → IsInRange cell → (live : Option ℕ) × IsRecordOf pages (key_number cell) live × HoldsIn base cell live
     within cell in_range = (
       map.get records (key_number cell),
-      (λ value. (
-        (λ live. (is_map (key_number cell) value).1 (record_of_slot pages (key_number cell) value live)),
-        (λ is. slot_of_record pages (key_number cell) value ((is_map (key_number cell) value).0 is)),
-      )),
+      record {
+        some = λ value. (
+          (λ live. (is_map (key_number cell) value).1 (live.0, live.1, slot_of_live pages (key_number cell) value live.0 live.1 live.2)),
+          (λ is. live_of_record pages (key_number cell) value ((is_map (key_number cell) value).0 is)),
+        );
+        once = λ n m i j v w one other. once n m i j (key_number cell) v w (slot_of_live pages (key_number cell) v n i one) (slot_of_live pages (key_number cell) w m j other);
+      },
       held base cell (map.get records (key_number cell)) (means.holds cell in_range) (size_told cell in_range),
     )
 

@@ -1,4 +1,5 @@
 mod Names
+pub mod Added
 pub mod Fast
 pub mod Called
 pub mod Chains
@@ -26,7 +27,6 @@ pub mod Refusing
 pub mod RunningOn
 pub mod Stepped
 pub mod Stepping
-pub mod Tolds
 pub mod UndoingAll
 pub mod UndoingBases
 pub mod WholeBases

@@ -145,7 +145,7 @@ module _ {P : Type 0} (bits_of : P → ℕ → ℕ) (m : ManagerFields P) (h : I
   slots_of_base place bucket is cell value in_range has =
       let number = entry pages (dirs_of pages m.root.page) place in
       let key = key_number cell in
-      let record_there = record_of_slot clean key value (number, bucket, is clean all_clean, has) in
+      let record_there = record_of_slot clean key value number bucket (is clean all_clean) has in
       let live : map.get (live_records clean) key ≡ Some value =
       map_is_look_up bits clean m.root.page bounded form key ∙ (record_found bits depth (lead_of pages m.root.page) (buckets_of pages) form.form key value).0 record_there in
       (subst (IsRecord cell) live (means.can_be cell in_range), means.holds cell in_range ∙ ap (state_of_record cell) live)

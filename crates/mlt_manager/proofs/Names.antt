@@ -4,7 +4,7 @@ pub use Rattle.mlt_event.specs.declared.{answer.Answer.Answer, event.Event.Event
 pub use Rattle.mlt_hash.specs.Walks.{WalkContext, context_by}
 pub use Rattle.mlt_hash_access.specs.{LocalStates.LocalState, LocalStates.local, Views.View, Views.view_of, CleanPages.RunningImages, CleanPages.clean_pages, Running.HoldsNothing, Running.clean_of}
 pub use Rattle.mlt_hash_form.specs.{File.FilePages, File.GivesPseudokeys, File.HasForm, File.bucket_of, File.header_of, Records.IsRecordMap, Records.live_records}
-pub use Rattle.mlt_manager.specs.{Answers.AnswersAbort, Answers.AnswersBegin, Answers.AnswersCall, Answers.AnswersCancel, Answers.AnswersCommit, Answers.AnswersStep, Answers.ChangesOpen, Answers.HasCalled, Answers.HasEnded, Answers.HasStepped, Answers.IsBusy, Answers.IsByAnother, Answers.IsIdleWith, Answers.IsOpenAt, Answers.IsRunning, Answers.IsUndoing, Answers.MayCall, Answers.active_after, Answers.counted, Answers.txs_after, Bases.HasBase, Bases.HasCleanPage, Bases.HasCleanPages, Bases.HasDepth, Bases.IsPendingWith, Bases.KeepsWhatCounts, Bases.LeavesBase, Bases.TakesStepBack, Bases.UndoingLeavesBase, Bases.WholeLeavesBase, Chains.StepsBy, Chains.StepsUpTo, Events.IsRun, Events.Meets, Headline.Transcripts, Headline.transcripts_of, Managers.IsManager, Managers.ManagerFields, Managers.state_of, Openings.IsNew, Parts.fields_of, Promises.IsCommittedBaseOf, Promises.KeepsPromises, Promises.PassesTheChecker, Promises.lists_by, Undoings.AnswersWholeUndo, Undoings.GoesOnBack, Undoings.StopsBack, Wholes.AnswersWhole, Wholes.DropsIfItStands, Wholes.HasRun, Wholes.LetsGoOn, Wholes.StepsOnUpTo, Wholes.Stops}
+pub use Rattle.mlt_manager.specs.{Answers.AnswersAbort, Answers.AnswersBegin, Answers.AnswersCall, Answers.AnswersCancel, Answers.AnswersCommit, Answers.AnswersStep, Answers.ChangesOpen, Answers.HasCalled, Answers.HasEnded, Answers.HasStepped, Answers.IsBusy, Answers.IsByAnother, Answers.IsIdleWith, Answers.IsOpenAt, Answers.IsRunning, Answers.IsUndoing, Answers.MayCall, Answers.active_after, Answers.counted, Answers.txs_after, Bases.HasBase, Bases.HasCleanPage, Bases.HasCleanPages, Bases.HasDepth, Bases.IsPendingWith, Bases.KeepsWhatCounts, Bases.LeavesBase, Bases.TakesStepBack, Bases.UndoingLeavesBase, Bases.WholeLeavesBase, Chains.StepsBy, Chains.StepsUpTo, Events.IsRun, Events.Meets, Managers.IsManager, Managers.ManagerFields, Managers.state_of, Openings.IsNew, Parts.fields_of, Promises.IsCommittedBaseOf, Promises.KeepsPromises, Promises.PassesTheChecker, Promises.lists_by, Undoings.AnswersWholeUndo, Undoings.GoesOnBack, Undoings.StopsBack, Wholes.AnswersWhole, Wholes.DropsIfItStands, Wholes.HasRun, Wholes.LetsGoOn, Wholes.StepsOnUpTo, Wholes.Stops}
 pub use Rattle.mlt_manager_invariant.{specs.Copies.AreSlotsOf, specs.Copies.CopiesSlots, proofs.MaySteps.may_step, proofs.Tables.inserted_elsewhere, proofs.Tables.inserted_here, proofs.Tables.removed_here, specs.Events.KeepsCleanPages, specs.Sound.FitsAt, specs.Sound.IsSound, specs.States.State, specs.States.abstract_state_of, specs.States.all_of, specs.States.images_kept, specs.States.pending_room, specs.States.room_of, proofs.CommittedBases.with_base, specs.Traced.IsTraced}
 pub use Rattle.mlt_object_base.specs.{Meaning.Means, Records.IsRecord, Records.state_of_record, declared.request.Request.Request, declared.request.Request.TheVariants.Do, Undo.Undo}
 pub use Rattle.mlt_object_kinds.specs.{Bases.Base, Bases.Step, Bases.empty_base, Bases.state_at, Operations.cell_of, declared.operation.ObjOp.ObjOp, declared.operation.ObjReply.ObjReply}

@@ -1,7 +1,7 @@
 -- A run of events, one after another
-use Rattle.mlt_manager.proofs.Names.{zero, Limits, Event, Told, counted, IsRun, Meets, ManagerFields, IsNew, KeepsPromises}
+use Rattle.mlt_manager.proofs.Names.{zero, TraceItem, Limits, Event, Told, counted, IsRun, Meets, ManagerFields, IsNew, KeepsPromises}
 use Rattle.std.proofs.Common.{suc, ◌≡◌, ◌<◌, ◌≤◌, ℕ, ◌+◌, List, [], ◌∷◌, ◌++◌, length, take, get_or, refl, sym, ap, subst, ◌∙◌, arith}
-use Rattle.mlt_manager.{specs.Events.Plays, proofs.Tolds.history_told}
+use Rattle.mlt_manager.{specs.Courses.Course, specs.Courses.HasAdded, specs.Courses.Tells, specs.Courses.TellsAll, specs.Events.Plays, proofs.Courses.tells_on}
 
 -- the events so far, and what they were told
 pub record HasPlayed {P : Type 0} (bits_of : P → ℕ → ℕ) (limits : Limits) (pseudo : P) (events : List Event) (tolds : List Told) (now : ManagerFields P) : Type 0 where
@@ -35,7 +35,16 @@ played_on bits_of limits pseudo events i tolds tolds' m m' event told within is 
           (subst (λ (ts : List Told). IsRun bits_of h.opening (take i events ++ event ∷ []) ts m') (sym more) (run_on bits_of h.opening m m' (take i events) tolds event told h.run meets));
     }
 
-take_all : (xs : List Event) (i : ℕ) → length xs ≤ i → take i xs ≡ xs
+pub told_on : (c d d' : Course) (events : List Event) (i : ℕ) (tolds tolds' : List Told) (items items' : List TraceItem) (event : Event) (told : Told)
+    → i < length events → event ≡ get_or events i event → tolds' ≡ tolds ++ told ∷ [] → TellsAll c (take i events) tolds d items → Tells d event told d' → HasAdded d event told d' items items'
+    → TellsAll c (take (i + 1) events) tolds' d' items'
+told_on c d d' events i tolds tolds' items items' event told within is more tells one adds =
+    let next_place : i + 1 ≡ suc i = omega arith in
+    let one_more : take (i + 1) events ≡ take i events ++ event ∷ [] = ap (λ k. take k events) next_place ∙ take_one events i event within is in
+    subst (λ (es : List Event). TellsAll c es tolds' d' items') (sym one_more)
+    (subst (λ (ts : List Told). TellsAll c (take i events ++ event ∷ []) ts d' items') (sym more) (tells_on c d d' (take i events) tolds items items' event told tells one adds))
+
+pub take_all : (xs : List Event) (i : ℕ) → length xs ≤ i → take i xs ≡ xs
 take_all [] zero within = refl
 take_all [] (suc i) within = refl
 take_all (x ∷ xs) zero within = absurd (omega (arith, within))
@@ -47,6 +56,5 @@ all_played bits_of limits pseudo events i tolds m over h promises = record {
   first = h.opening;
   is_new = h.is_new;
   run = subst (λ (es : List Event). IsRun bits_of h.opening es tolds m) (take_all events i over) h.run;
-  told = history_told bits_of limits pseudo events tolds h.opening m h.is_new (subst (λ (es : List Event). IsRun bits_of h.opening es tolds m) (take_all events i over) h.run);
   promises = promises;
 }

@@ -1,16 +1,16 @@
 -- Every manager keeps its promises
-use Rattle.std.proofs.Common.{◌≡◌, ℕ, List, sym, subst, nat_cmp}
+use Rattle.std.proofs.Common.{◌≡◌, ℕ, List, refl, sym, subst, nat_cmp}
 use Rattle.std.specs.FinMap as map
-use Rattle.mlt_manager.proofs.Names.{Base, Step, empty_base, UndoneTo, TraceItem, FilePages, GivesPseudokeys, HasForm, IsRecordMap, live_records, Page, clean_pages, AreBegunInOrder, ArePlaced, abstract_state_of, with_base, IsManager, ManagerFields, state_of, Transcripts, transcripts_of, IsCommittedBaseOf, KeepsPromises, PassesTheChecker, lists_by}
+use Rattle.mlt_manager.proofs.Names.{Base, Step, empty_base, UndoneTo, TraceItem, FilePages, GivesPseudokeys, HasForm, IsRecordMap, live_records, Page, clean_pages, AreBegunInOrder, ArePlaced, abstract_state_of, with_base, IsManager, ManagerFields, state_of, IsCommittedBaseOf, KeepsPromises, PassesTheChecker, lists_by}
 use Rattle.std.specs.FinSet as set
-use Rattle.mlt_hash_form.specs.Prefixes.{IsExtendibleHashFile}
+use Rattle.mlt_hash_form.specs.{File.IsOnceLive, Prefixes.IsExtendibleHashFile}
 use Rattle.mlt_hash_ghosts.proofs.Transactions.{kept_by_match}
 use Rattle.mlt_trace.specs.{Ranges.AllFit, Items.trace_text, Numbers.committed_txs}
 use Rattle.mlt_trace_check.{specs.Writable.AreWritable, specs.Traces.IsAcceptedTrace, specs.Traces.told, proofs.Histories.serializable}
 use Rattle.mlt_order.specs.{Histories.IsCommitOrderSerializable, Runs.IsSerialBase}
 use Rattle.mlt_tx_meaning.specs.AbstractStates.{ledger_of}
 use Rattle.mlt_manager_invariant.specs.Traced.{IsCommittedBase}
-use Rattle.mlt_manager.{specs.Headline.KeepsMainPromise, proofs.CleanPages.pages_clean, proofs.Headline.pages_mean, proofs.Headline.same_transcripts, proofs.PassLocks.pass_locks, proofs.PassLocks.written_locks, proofs.Stepped.same_base}
+use Rattle.mlt_manager.{specs.Courses.KeepsPromiseOver, specs.Courses.course_of, proofs.CleanPages.pages_clean, proofs.Courses.alike, proofs.Courses.keeps_busy, proofs.Courses.stands_in, proofs.Headline.pages_mean, proofs.PassLocks.pass_locks, proofs.PassLocks.written_locks, proofs.Stepped.same_base}
 
 module _ {P : Type 0} (bits_of : P → ℕ → ℕ) (m : ManagerFields P) (h : IsManager bits_of m) where
   abbrev pages : map.FinMap nat_cmp Page
@@ -20,23 +20,19 @@ module _ {P : Type 0} (bits_of : P → ℕ → ℕ) (m : ManagerFields P) (h : I
   pub serial : IsCommitOrderSerializable Step empty_base (lists_by m) h.base
   serial = serializable m.shared.history.items h.base h.sound.match.records.history
 
-  pub open_taken_back : UndoneTo Step serial.0 (transcripts_of m.shared.history.items).of_open h.base
-  open_taken_back = subst (λ (t : Transcripts). UndoneTo Step serial.0 t.of_open h.base) (sym (same_transcripts m.shared.history.items)) serial.2
-
-  pub committed_alone : IsSerialBase Step empty_base (transcripts_of m.shared.history.items).committed serial.0
-  committed_alone = subst (λ (t : Transcripts). IsSerialBase Step empty_base t.committed serial.0) (sym (same_transcripts m.shared.history.items)) serial.1
-
-  -- **Every manager keeps the main promise.**
-  abbrev main_kept : IsRecordMap (live_records pages) (map.get pages) → KeepsMainPromise m
-  main_kept is_map = record {
-    none_back = λ before later tx number is. (h.traced.placed before later (TraceItem.Commit tx number) is).1;
-    base = serial.0;
-    alone = committed_alone;
+  -- **Every manager keeps the promise over its course.**
+  abbrev main_kept : IsRecordMap (live_records pages) (map.get pages) → IsOnceLive (map.get pages) → KeepsPromiseOver (course_of m) m
+  main_kept is_map once = record {
+    serial = record {
+      base = serial.0;
+      alone = serial.1;
+      state = h.base;
+      taken_back = subst (λ f. UndoneTo Step serial.0 f h.base) (alike _ _ (λ tx. stands_in bits_of m h tx (map.get m.txs tx) refl)) serial.2;
+    };
     clean = pages;
     put_back = pages_clean bits_of m h.images h.base h.sound;
-    state = h.base;
-    means = pages_mean pages h.base is_map h.sound.match.records.means;
-    taken_back = open_taken_back;
+    busy = keeps_busy bits_of m h;
+    means = pages_mean pages h.base is_map once h.sound.match.records.means;
   }
 
   -- **Every manager keeps its promises.**
@@ -44,7 +40,7 @@ module _ {P : Type 0} (bits_of : P → ℕ → ℕ) (m : ManagerFields P) (h : I
       → ((bits : ℕ → ℕ) (pages : map.FinMap nat_cmp Page) (root : ℕ) → GivesPseudokeys bits → HasForm bits (map.get pages) root → IsRecordMap (live_records pages) (map.get pages))
       → KeepsPromises bits_of m
   promises_kept has_file has_records = record {
-    main = main_kept (has_records (bits_of m.root.pseudo) pages m.root.page h.sound.match.file.bounded h.sound.match.file.form);
+    main = main_kept (has_records (bits_of m.root.pseudo) pages m.root.page h.sound.match.file.bounded h.sound.match.file.form) (has_file (bits_of m.root.pseudo) m.active (map.get pages) m.root.page h.sound.match.file.bounded h.sound.match.file.form).once;
     file = has_file (bits_of m.root.pseudo) m.active (map.get pages) m.root.page h.sound.match.file.bounded h.sound.match.file.form;
     can_be = h.sound.match.records.means.can_be;
     ghosts = kept_by_match (ledger_of (abstract_state_of (state_of bits_of m h.images h.base))) h.sound.match.file.ghosts;

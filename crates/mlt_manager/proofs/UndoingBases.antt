@@ -6,7 +6,7 @@ use Rattle.mlt_order.{specs.Runs.Runs, proofs.RunLemmas.runs_append}
 use Rattle.mlt_manager.proofs.{Called.one_there, Stepped.step_keeps, UndoingAll.going_entries, UndoingAll.still_undoing, UndoingAll.there_now, WholeBases.base_by}
 
 -- one more of the same, before or behind
-one_more : {A : Type 0} (n : ℕ) (a : A) (rest : List A) → replicate n a ++ a ∷ rest ≡ a ∷ (replicate n a ++ rest)
+pub one_more : {A : Type 0} (n : ℕ) (a : A) (rest : List A) → replicate n a ++ a ∷ rest ≡ a ∷ (replicate n a ++ rest)
 one_more zero a rest = refl
 one_more (suc n) a rest = ap (λ l. a ∷ l) (one_more n a rest)
 

@@ -1,15 +1,18 @@
 -- The course of transactions: what events make of it, by what they were told, and what is promised of it
-use Rattle.std.specs.Prelude.{ℕ, ◌≡◌, ◌≢◌, ◌+◌, List, [], ◌∷◌, ◌++◌, length, Option, Contains, true, false}
+use Rattle.std.specs.Prelude.{ℕ, ◌≡◌, ◌≢◌, ◌+◌, ◌-◌, List, [], ◌∷◌, ◌++◌, length, replicate, Option, None, Some, Contains, true, false}
 use Rattle.std.specs.Ordering.{nat_cmp}
 use Rattle.std.specs.FinMap as map
-use Rattle.mlt_types.specs.declared.refusal.Refusal.{Refusal, TheVariants.IdsSpent, TheVariants.LogFull, TheVariants.OutOfMemory, TheVariants.TooManyOpen}
+use Rattle.mlt_types.specs.declared.refusal.Refusal.{Refusal, TheVariants.IdsSpent, TheVariants.LogFull, TheVariants.NoRoom, TheVariants.OutOfMemory, TheVariants.TooManyOpen}
 use Rattle.mlt_object_kinds.specs.{Bases.Base, Bases.Step, Bases.empty_base, declared.operation.ObjOp.ObjOp, declared.operation.ObjReply.ObjReply}
 use Rattle.mlt_order.specs.{Interleavings.UndoneTo, Runs.IsSerialBase, Tables.table_with}
 use Rattle.mlt_event.specs.declared.answer.Answer.TheVariants.{Going, Waiting, Blocked, Done, Undone, Aborted, Refused}
 use Rattle.mlt_event.specs.declared.{event.Event.Event, told.Told.Told}
 use Rattle.mlt_event.specs.declared.told.Told.TheVariants.{Begun, Called, Answered, Cancelled, Committed, Aborting, Refused}
+use Rattle.mlt_object_base.specs.declared.request.Request.{Request, TheVariants.Do, TheVariants.TakeBack}
+use Rattle.mlt_order.specs.Histories.{lists_of}
+use Rattle.mlt_trace.specs.{Entries.entries_of, declared.item.TraceItem.TraceItem}
 use Rattle.mlt_page.specs.declared.page.Page.{Page}
-use Rattle.mlt_tx.specs.Tables.{KeepsImage}
+use Rattle.mlt_tx.specs.{Tables.KeepsImage, declared.transaction.At.At, declared.transaction.Transaction.Transaction}
 use Rattle.mlt_manager.specs.{Bases.HasCleanPages, Headline.PagesMean, Managers.ManagerFields}
 
 -- operations of one transaction, in order, each with the reply that it was told
@@ -45,17 +48,30 @@ abbrev pub Turns : Course → ℕ → Life → Life → Ops → Course → Type 
 Turns c tx from to ops d =
     (c.life tx ≡ from) × (d ≡ record c { life = table_with c.life tx to; ops = table_with c.ops tx ops })
 
--- Where an event may be refused: where its transaction is not at what the event is for. A begin, and a call of an idle
+-- why an event is refused where its transaction is at this, and the event is for what another is at
+abbrev pub reason_at : Life → Event → Refusal
+reason_at NotOpen event = Refusal.NoSuchTx
+reason_at Idle event = Refusal.NotRunning
+reason_at (Pending op) (Event.WholeUndo tx) = Refusal.NotRunning
+reason_at (Pending op) event = Refusal.Running
+reason_at Undoing event = Refusal.Undoing
+
+-- why a call is refused
+abbrev pub MayRefuseCall : Life → Event → Refusal → Type 0
+MayRefuseCall Idle event reason = Contains (LogFull ∷ OutOfMemory ∷ []) reason
+MayRefuseCall life event reason = reason ≡ reason_at life event
+
+-- Where an event may be refused, and why: where its transaction is not at what the event is for. A begin, and a call of an idle
 -- transaction, may be refused for want of memory or by a limit.
 abbrev pub MayRefuse : Course → Event → Refusal → Type 0
 MayRefuse c Event.Begin reason = Contains (TooManyOpen ∷ IdsSpent ∷ OutOfMemory ∷ []) reason
-MayRefuse c (Event.Call tx op) reason = c.life tx ≡ Idle → Contains (LogFull ∷ OutOfMemory ∷ []) reason
-MayRefuse c (Event.Step tx) reason = IsBusy (c.life tx) → ⊥
-MayRefuse c (Event.Cancel tx) reason = (op : ObjOp) → c.life tx ≢ Pending op
-MayRefuse c (Event.Commit tx) reason = c.life tx ≢ Idle
-MayRefuse c (Event.Abort tx) reason = c.life tx ≢ Idle
-MayRefuse c (Event.Whole tx op) reason = c.life tx ≡ Idle → Contains (LogFull ∷ OutOfMemory ∷ []) reason
-MayRefuse c (Event.WholeUndo tx) reason = c.life tx ≢ Undoing
+MayRefuse c (Event.Call tx op) reason = MayRefuseCall (c.life tx) (Event.Call tx op) reason
+MayRefuse c (Event.Step tx) reason = (IsBusy (c.life tx) → ⊥) × (reason ≡ reason_at (c.life tx) (Event.Step tx))
+MayRefuse c (Event.Cancel tx) reason = ((op : ObjOp) → c.life tx ≢ Pending op) × (reason ≡ reason_at (c.life tx) (Event.Cancel tx))
+MayRefuse c (Event.Commit tx) reason = (c.life tx ≢ Idle) × (reason ≡ reason_at (c.life tx) (Event.Commit tx))
+MayRefuse c (Event.Abort tx) reason = (c.life tx ≢ Idle) × (reason ≡ reason_at (c.life tx) (Event.Abort tx))
+MayRefuse c (Event.Whole tx op) reason = MayRefuseCall (c.life tx) (Event.Whole tx op) reason
+MayRefuse c (Event.WholeUndo tx) reason = (c.life tx ≢ Undoing) × (reason ≡ reason_at (c.life tx) (Event.WholeUndo tx))
 
 -- What an event that was told this makes of the course. No event is told anything else.
 abbrev pub Tells : Course → Event → Told → Course → Type 0
@@ -67,7 +83,8 @@ Tells c (Event.Step tx) (Answered (Waiting page by)) d = IsBusy (c.life tx) × (
 Tells c (Event.Step tx) (Answered (Blocked by)) d = (op : ObjOp) × (c.life tx ≡ Pending op) × (d ≡ c)
 Tells c (Event.Step tx) (Answered (Done reply)) d =
     (op : ObjOp) × Turns c tx (Pending op) Idle (c.ops tx ++ (op, reply) ∷ []) d
-Tells c (Event.Step tx) (Answered (Refused reason)) d = (op : ObjOp) × Turns c tx (Pending op) Idle (c.ops tx) d
+Tells c (Event.Step tx) (Answered (Refused reason)) d =
+    Contains (NoRoom ∷ OutOfMemory ∷ []) reason × ((op : ObjOp) × Turns c tx (Pending op) Idle (c.ops tx) d)
 -- an abort takes the last operation back: others are left, or it was the only one
 Tells c (Event.Step tx) (Answered Undone) d =
     (left : Ops) × (last : ObjOp × ObjReply) × (c.ops tx ≡ left ++ last ∷ []) × (left ≢ []) × Turns c tx Undoing Undoing left d
@@ -81,13 +98,70 @@ Tells c (Event.Abort tx) (Aborting false) d = (c.ops tx ≢ []) × Turns c tx Id
 Tells c (Event.Whole tx op) (Answered (Done reply)) d = Turns c tx Idle Idle (c.ops tx ++ (op, reply) ∷ []) d
 Tells c (Event.Whole tx op) (Answered (Waiting page by)) d = (c.life tx ≡ Idle) × (d ≡ c)
 Tells c (Event.Whole tx op) (Answered (Blocked by)) d = (c.life tx ≡ Idle) × (d ≡ c)
-Tells c (Event.Whole tx op) (Answered (Refused reason)) d = (c.life tx ≡ Idle) × (d ≡ c)
+Tells c (Event.Whole tx op) (Answered (Refused reason)) d =
+    Contains (NoRoom ∷ OutOfMemory ∷ []) reason × (c.life tx ≡ Idle) × (d ≡ c)
 -- a whole undoing takes the last operations back, up to one that waits, or all
 Tells c (Event.WholeUndo tx) (Answered (Waiting page by)) d =
     (left : Ops) × (back : Ops) × (c.ops tx ≡ left ++ back) × (left ≢ []) × Turns c tx Undoing Undoing left d
 Tells c (Event.WholeUndo tx) (Answered Aborted) d = Turns c tx Undoing NotOpen [] d
 Tells c event (Refused reason) d = MayRefuse c event reason × (d ≡ c)
 Tells c event other d = ⊥
+
+-- What an event that was told this adds to the history: that a transaction begins, does an operation, takes one back, commits or is
+-- closed.
+abbrev pub AddsItems : Course → Event → Told → Course → List TraceItem → Type 0
+AddsItems c Event.Begin (Begun tx) d items = items ≡ TraceItem.Begin tx ∷ []
+AddsItems c (Event.Step tx) (Answered (Done reply)) d items =
+    (op : ObjOp) × (c.life tx ≡ Pending op) × (items ≡ TraceItem.Op tx (op, reply) ∷ [])
+AddsItems c (Event.Step tx) (Answered Undone) d items = items ≡ TraceItem.Back tx ∷ []
+AddsItems c (Event.Step tx) (Answered Aborted) d items = items ≡ TraceItem.Back tx ∷ TraceItem.Abort tx ∷ []
+AddsItems c (Event.Commit tx) (Committed number) d items = items ≡ TraceItem.Commit tx number ∷ []
+AddsItems c (Event.Abort tx) (Aborting true) d items = items ≡ TraceItem.Abort tx ∷ []
+AddsItems c (Event.Whole tx op) (Answered (Done reply)) d items = items ≡ TraceItem.Op tx (op, reply) ∷ []
+-- an item for each operation that is taken back
+AddsItems c (Event.WholeUndo tx) (Answered (Waiting page by)) d items =
+    items ≡ replicate (length (c.ops tx) - length (d.ops tx)) (TraceItem.Back tx)
+AddsItems c (Event.WholeUndo tx) (Answered Aborted) d items =
+    items ≡ replicate (length (c.ops tx)) (TraceItem.Back tx) ++ TraceItem.Abort tx ∷ []
+AddsItems c event told d items = items ≡ []
+
+-- the history has these items before the event, and those after it
+abbrev pub HasAdded : Course → Event → Told → Course → List TraceItem → List TraceItem → Type 0
+HasAdded c event told d before after = (here : List TraceItem) × (after ≡ before ++ here) × AddsItems c event told d here
+
+-- ## The course of a manager
+
+-- the operation that a request does, or whose inverse it does
+abbrev pub asked_op : Request → ObjOp
+asked_op (Do op) = op
+asked_op (TakeBack item) = item.0
+
+-- what an open transaction is at, and which operations of it stand
+abbrev pub life_at : At → Life
+life_at At.Idle = Idle
+life_at (At.Pending o) = Pending (asked_op o.request)
+life_at (At.Undoing inverting) = Undoing
+
+abbrev pub life_in : Option Transaction → Life
+life_in None = NotOpen
+life_in (Some t) = life_at t.at
+
+abbrev pub ops_in : Option Transaction → Ops
+ops_in None = []
+ops_in (Some t) = t.undo.entries
+
+-- what the history says that each did which committed
+abbrev pub committed_by : List TraceItem → List Ops
+committed_by items = (lists_of (entries_of items)).committed
+
+-- the course that a manager has come
+abbrev pub course_of : {P : Type 0} → ManagerFields P → Course
+course_of m = record {
+  begun = m.begun;
+  committed = committed_by m.shared.history.items;
+  life = λ tx. life_in (map.get m.txs tx);
+  ops = λ tx. ops_in (map.get m.txs tx);
+}
 
 -- A course is serializable: what committed, run alone in the order of the commits from the empty base, with the replies that it
 -- was told, leads to `base`; and from that the operations of open transactions lead to `state`, in every order in which they may
@@ -98,12 +172,13 @@ pub record IsSerializable (c : Course) : Type 0 where
   pub state : Base
   pub taken_back : UndoneTo Step base c.ops state
 
--- what events that were told these make of the course, one after another, which is serializable behind each
-abbrev pub TellsAll : Course → List Event → List Told → Course → Type 0
-TellsAll c [] [] d = d ≡ c
-TellsAll c (event ∷ events) (told ∷ tolds) d =
-    (next : Course) × Tells c event told next × IsSerializable next × TellsAll next events tolds d
-TellsAll c events tolds d = ⊥
+-- what events that were told these make of the course and add to the history, one after another
+abbrev pub TellsAll : Course → List Event → List Told → Course → List TraceItem → Type 0
+TellsAll c [] [] d items = (d ≡ c) × (items ≡ [])
+TellsAll c (event ∷ events) (told ∷ tolds) d items =
+    (next : Course) × Tells c event told next × (here : List TraceItem) × AddsItems c event told next here
+    × (later : List TraceItem) × (items ≡ here ++ later) × TellsAll next events tolds d later
+TellsAll c events tolds d items = ⊥
 
 -- The main promise. The course is serializable. The pages, with the first images of running subtransactions put back, mean its
 -- `state`; and of a transaction that keeps a first image an operation is pending, or the abort has begun.

@@ -3,7 +3,7 @@ use Rattle.std.specs.Prelude.{ℕ, ◌≡◌, List, [], ◌∷◌, Result, Ok, E
 use Rattle.mlt_types.specs.declared.{refusal.Refusal.Refusal, limits.Limits.Limits}
 use Rattle.mlt_event.specs.declared.{answer.Answer.Answer, event.Event.Event, told.Told.Told}
 use Rattle.mlt_manager.specs.Answers.{AnswersAbort, AnswersBegin, AnswersCall, AnswersCancel, AnswersCommit, AnswersStep, IsByAnother, counted}
-use Rattle.mlt_manager.specs.{Bases.KeepsWhatCounts, Bases.LeavesBase, Bases.UndoingLeavesBase, Bases.WholeLeavesBase, Managers.ManagerFields, Openings.IsNew, Promises.KeepsPromises, Tolds.AreToldBy, Tolds.none_called, Undoings.AnswersWholeUndo, Wholes.AnswersWhole}
+use Rattle.mlt_manager.specs.{Bases.KeepsWhatCounts, Bases.LeavesBase, Bases.UndoingLeavesBase, Bases.WholeLeavesBase, Managers.ManagerFields, Openings.IsNew, Promises.KeepsPromises, Undoings.AnswersWholeUndo, Wholes.AnswersWhole}
 
 -- the answer to a step, or to the last of several, as an event is told it
 abbrev pub told_of : Result Answer Refusal → Told
@@ -48,14 +48,13 @@ IsRun {P = P} bits_of old (event ∷ events) (told ∷ tolds) new =
     × IsRun bits_of next events tolds new
 IsRun bits_of old events tolds new = ⊥
 
--- A run from a new manager with these limits and this function to pseudokeys. The history of the last manager, to which it
--- leads, is what the events were told, and what is promised of a manager holds of it.
+-- A run from a new manager with these limits and this function to pseudokeys. What is promised of a manager holds of the last one, to
+-- which it leads.
 pub record Plays {P : Type 0} (bits_of : P → ℕ → ℕ) (limits : Limits) (pseudo : P)
     (events : List Event) (tolds : List Told) (last : ManagerFields P) : Type 0 where
   pub first : ManagerFields P
   pub is_new : IsNew first limits pseudo
   pub run : IsRun bits_of first events tolds last
-  pub told : AreToldBy events tolds none_called last.shared.history.items
   pub promises : KeepsPromises bits_of last
 
 -- an event that leaves no operation and no inverse running, where none ran

@@ -12,6 +12,5 @@ pub mod Openings
 pub mod Parts
 pub mod PassLocks
 pub mod Promises
-pub mod Tolds
 pub mod Undoings
 pub mod Wholes

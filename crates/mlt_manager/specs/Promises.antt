@@ -16,7 +16,7 @@ use Rattle.mlt_trace_check.specs.Traces.{IsAcceptedTrace}
 use Rattle.mlt_tx.specs.declared.transaction.Transaction.{Transaction}
 use Rattle.mlt_tx_meaning.specs.Presences.{standing_of}
 use Rattle.mlt_manager_invariant.specs.States.{undoing_of}
-use Rattle.mlt_manager.specs.{Bases.HasBase, Headline.KeepsMainPromise, Managers.ManagerFields, PassLocks.HoldsLocksOfItsPass}
+use Rattle.mlt_manager.specs.{Bases.HasBase, Courses.KeepsPromiseOver, Courses.course_of, Managers.ManagerFields, PassLocks.HoldsLocksOfItsPass}
 
 -- what the history tells of: what was committed, in the order of the commits, and what stands of each open transaction
 abbrev pub lists_by : {P : Type 0} → ManagerFields P → Lists (ObjOp × ObjReply)
@@ -51,7 +51,7 @@ pub record MatchesHistory {P : Type 0} (m : ManagerFields P) : Type 0 where
 -- have, in which removals of open transactions have their ghosts. A running operation holds the page locks of its pass, and
 -- nobody else holds any. Who is open, what may be taken back and what is held is what the history says.
 pub record KeepsPromises {P : Type 0} (bits_of : P → ℕ → ℕ) (m : ManagerFields P) : Type 0 where
-  pub main : KeepsMainPromise m
+  pub main : KeepsPromiseOver (course_of m) m
   pub file : IsExtendibleHashFile (bits_of m.root.pseudo) m.active (map.get main.clean) m.root.page
   pub can_be : (cell : Cell) → IsInRange cell
       → IsRecord cell (map.get (live_records main.clean) (key_number cell))

@@ -8,7 +8,7 @@ ghost use Rattle.mlt_tx.specs.{Standing.standing_in, Tables.KeepsImage, Tables.K
 ghost use Rattle.mlt_manager.specs.Answers.{AnswersAbort, AnswersBegin, AnswersCall, AnswersCancel, AnswersCommit, AnswersStep, IsByAnother, counted};
 ghost use Rattle.mlt_manager.specs.Bases.{HasDepth, KeepsWhatCounts, LeavesBase, UndoingLeavesBase, WholeLeavesBase};
 ghost use Rattle.mlt_manager.specs.CleanBuckets.{IsBucketOfPrefix};
-ghost use Rattle.mlt_manager.specs.Courses.{Course, KeepsPromiseOver, TellsAll, opening_course};
+ghost use Rattle.mlt_manager.specs.Courses.{HasAdded, KeepsPromiseOver, Tells, TellsAll, course_of, opening_course};
 ghost use Rattle.mlt_manager.specs.Events.{AreWholeEvents, Meets, NoneWaits, Plays, told_of};
 ghost use Rattle.mlt_manager.specs.HandingOut.{HandsOut};
 ghost use Rattle.mlt_manager.specs.Images.{IsImageAt};
@@ -59,6 +59,7 @@ impl<P: Pseudo> Manager<P> {
     where
         P: Drop,
         ensures opening { IfOk result (λ manager. IsNew manager limits pseudo) }
+        ensures course { IfOk result (λ manager. course_of manager ≡ opening_course) }
         ensures refusal { IsOkUnless result Refusal.OutOfMemory }
     {
         Ok(Manager {
@@ -71,7 +72,7 @@ impl<P: Pseudo> Manager<P> {
     /// # Errors
     /// `TooManyOpen`, where as many are open as may be; else `IdsSpent`, where all numbers were given out; else
     /// `OutOfMemory`, where a growth was refused. Nothing is begun then.
-    pub fn begin(&mut self) -> Result<TxId, Refusal>
+    fn begin(&mut self) -> Result<TxId, Refusal>
         ensures answers { AnswersBegin (counted self.old) self.new result }
         ensures handed { self.new.shared.history.handed ≡ self.old.shared.history.handed }
     {
@@ -86,7 +87,7 @@ impl<P: Pseudo> Manager<P> {
     /// operation is pending; `LogFull`, where it has as many operations as it may have; else `OutOfMemory`, where a
     /// growth was refused. No operation is pending then that was not before.
     #[inline(always)]
-    pub fn call(&mut self, tx: TxId, op: ObjOp) -> Result<(), Refusal>
+    fn call(&mut self, tx: TxId, op: ObjOp) -> Result<(), Refusal>
         ensures answers { AnswersCall (counted self.old) self.new tx op result }
         ensures handed { self.new.shared.history.handed ≡ self.old.shared.history.handed }
     {
@@ -99,7 +100,7 @@ impl<P: Pseudo> Manager<P> {
     ///
     /// # Errors
     /// `NoSuchTx`, where no transaction of this number is open; `NotRunning`, where it is at nothing.
-    pub fn step(&mut self, tx: TxId) -> Result<Answer, Refusal>
+    fn step(&mut self, tx: TxId) -> Result<Answer, Refusal>
         ensures answers { AnswersStep P.bits_of (counted self.old) self.new tx result }
         ensures base { IfOk result (λ told. LeavesBase told (counted self.old) self.new tx) }
         ensures others { IfOk result (λ told. IsByAnother told self.new.txs tx) }
@@ -114,7 +115,7 @@ impl<P: Pseudo> Manager<P> {
     /// # Errors
     /// `NoSuchTx`, where no transaction of this number is open; `Undoing`, where its abort has begun; `NotRunning`, where
     /// it is at nothing.
-    pub fn cancel(&mut self, tx: TxId) -> Result<(), Refusal>
+    fn cancel(&mut self, tx: TxId) -> Result<(), Refusal>
         ensures answers { AnswersCancel (counted self.old) self.new tx result }
         ensures base { OnOk result (KeepsWhatCounts (counted self.old) self.new) }
         ensures handed { self.new.shared.history.handed ≡ self.old.shared.history.handed }
@@ -128,7 +129,7 @@ impl<P: Pseudo> Manager<P> {
     /// # Errors
     /// `NoSuchTx`, where no transaction of this number is open; `Undoing`, where its abort has begun; `Running`, where an
     /// operation is pending.
-    pub fn commit(&mut self, tx: TxId) -> Result<u64, Refusal>
+    fn commit(&mut self, tx: TxId) -> Result<u64, Refusal>
         ensures answers { AnswersCommit (counted self.old) self.new tx result }
         ensures handed { self.new.shared.history.handed ≡ self.old.shared.history.handed }
     {
@@ -142,7 +143,7 @@ impl<P: Pseudo> Manager<P> {
     /// # Errors
     /// `NoSuchTx`, where no transaction of this number is open; `Undoing`, where its abort has begun; `Running`, where an
     /// operation is pending.
-    pub fn abort(&mut self, tx: TxId) -> Result<bool, Refusal>
+    fn abort(&mut self, tx: TxId) -> Result<bool, Refusal>
         ensures answers { AnswersAbort (counted self.old) self.new tx result }
         ensures handed { self.new.shared.history.handed ≡ self.old.shared.history.handed }
     {
@@ -154,7 +155,7 @@ impl<P: Pseudo> Manager<P> {
     ///
     /// # Errors
     /// Those of [`call`](Manager::call).
-    pub fn whole(&mut self, tx: TxId, op: ObjOp) -> Result<Answer, Refusal>
+    fn whole(&mut self, tx: TxId, op: ObjOp) -> Result<Answer, Refusal>
         ensures answers { AnswersWhole P.bits_of (counted self.old) self.new tx op result }
         ensures base { IfOk result
             (λ told. WholeLeavesBase told (counted self.old) self.new tx op) }
@@ -169,7 +170,7 @@ impl<P: Pseudo> Manager<P> {
     ///
     /// # Errors
     /// `NoSuchTx`, where no transaction of this number is open; `NotRunning`, where its abort has not begun.
-    pub fn whole_undo(&mut self, tx: TxId) -> Result<Answer, Refusal>
+    fn whole_undo(&mut self, tx: TxId) -> Result<Answer, Refusal>
         ensures answers { AnswersWholeUndo P.bits_of (counted self.old) self.new tx result }
         ensures base { IfOk result (λ told. UndoingLeavesBase told (counted self.old) self.new tx) }
         ensures others { IfOk result (λ told. IsByAnother told self.new.txs tx) }
@@ -179,9 +180,22 @@ impl<P: Pseudo> Manager<P> {
         self.parts.whole_undo(tx)
     }
 
-    /// Executes one event and returns its answer. Each event is one of the calls above.
+    /// Executes one event and returns its answer.
     #[inline(always)]
     pub fn act(&mut self, event: Event) -> Told
+        ensures course { Tells (course_of self.old) event result (course_of self.new) }
+        ensures items { HasAdded (course_of self.old) event result (course_of self.new)
+            self.old.shared.history.items self.new.shared.history.items }
+        ensures meets { Meets P.bits_of event result (counted self.old) self.new }
+        ensures handed { self.new.shared.history.handed ≡ self.old.shared.history.handed }
+    {
+        self.keeps_its_invariant();
+        let told = self.execute(event);
+        told
+    }
+
+    #[inline(always)]
+    fn execute(&mut self, event: Event) -> Told
         ensures meets { Meets P.bits_of event result (counted self.old) self.new }
         ensures handed { self.new.shared.history.handed ≡ self.old.shared.history.handed }
     {
@@ -227,10 +241,11 @@ impl<P: Pseudo> Manager<P> {
         P: Drop,
         ensures plays { IfOk result (λ played.
             Plays P.bits_of limits pseudo events.now played.1.items played.0) }
-        // what the events were told is a course of transactions, over which the promise is kept
-        ensures course { IfOk result (λ played. (c : Course)
-            × TellsAll opening_course events.now played.1.items c
-            × KeepsPromiseOver c played.0) }
+        // what the events were told is a course of transactions and a history, and the promise is kept over the course
+        ensures course { IfOk result (λ played.
+            TellsAll opening_course events.now played.1.items (course_of played.0)
+            played.0.shared.history.items
+            × KeepsPromiseOver (course_of played.0) played.0) }
         // all of the history is there
         ensures history { IfOk result (λ played. played.0.shared.history.handed ≡ []) }
         // among whole events nobody waits
@@ -274,6 +289,7 @@ impl<P: Pseudo> Manager<P> {
     /// `OutOfMemory`, where a growth was refused; nothing is handed out then.
     pub fn take_history(&mut self, list: &mut Vec<KeptItem>) -> Result<(), Refusal>
         ensures rest { HandsOut self.old self.new }
+        ensures course { course_of self.new ≡ course_of self.old }
         ensures handed { OnOk result
             (self.new.shared.history.handed ≡ self.old.shared.history.items) }
         ensures list { OnOk result (self.old.shared.history.items

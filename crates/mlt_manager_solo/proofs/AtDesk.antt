@@ -1,9 +1,9 @@
 -- Scripts at a desk over a manager of which nobody else is open
-use Rattle.std.proofs.Common.{◌≡◌, ℕ, [], ◌∷◌, Bool, true, false, Result, Ok, Err, inl, inr, refl, sym, subst, ◌∙◌}
+use Rattle.std.proofs.Common.{◌≡◌, ℕ, [], ◌∷◌, true, false, Result, Ok, Err, inl, inr, refl, sym, subst, ◌∙◌}
 use Rattle.mlt_manager_solo.proofs.Names.{Refusal, Transcript, ObjOp, ObjReply, Ending, ScriptForm, End, Committed, Aborted, Refused, Answer, Event, Told, counted, Meets, ManagerFields, HasOneIdle, IsAtRest, CanMark, HasAsked, HasRunScript, IsRefused, IsTakenBack, done_by, IsIdle, begun_by}
 use Rattle.mlt_script.specs.declared.statement.Ending.TheVariants.{Commit, Abort}
 use Rattle.mlt_script_serial.specs.{declared.call.DeskAnswer.DeskAnswer, Calls.Moves, Calls.answer_by, Plays.Gives, Plays.PlaysAt, DeskRuns.ClosesAs, DeskRuns.IsRunAt, DeskRuns.refusal_of_script}
-use Rattle.mlt_manager_solo.specs.Desks.{MeetsCall, MeetsUndoing, abort_told, reply_told}
+use Rattle.mlt_manager_solo.specs.Desks.{MeetsCall, MeetsUndoing, reply_told, undoing_told}
 use Rattle.mlt_manager_solo.proofs.{Backs.committed_rests, Ends.closes_it, Ends.undo_is_told, Ends.undoes_it, Wholes.idle_is_idle, Wholes.run_beside, Wholes.stands_behind_nobody}
 use Rattle.mlt_manager_solo.proofs.Scripts.{asked_done, asked_in_vain, asked_on, asked_refused, begun_alone, begun_asked, counted_one, ended_aborted, ended_committed, ended_refused, run_not_begun}
 
@@ -33,14 +33,15 @@ module _ {P : Type 0} (bits_of : P → ℕ → ℕ) where
     refused_by other reason h meets = absurd meets
 
   -- **An abort takes the transaction back.**
-  back_by : (old middle new : ManagerFields P) (tx : ℕ) → HasOneIdle bits_of old tx → (a : Result Bool Refusal) → Meets bits_of (Event.Abort tx) (abort_told a) (counted old) middle → MeetsUndoing bits_of a middle tx new
+  back_by : (old middle new : ManagerFields P) (tx : ℕ) → HasOneIdle bits_of old tx → (t : Told) → Meets bits_of (Event.Abort tx) t (counted old) middle → MeetsUndoing bits_of (undoing_told t) middle tx new
       → IsAtRest bits_of new × IsTakenBack bits_of old new tx
-  back_by old middle new tx one (Ok true) meets same =
+  back_by old middle new tx one (Told.Aborting true) meets same =
       subst (λ (m : ManagerFields P). IsAtRest bits_of m × IsTakenBack bits_of old m tx) (sym same) (closes_it bits_of old middle tx one meets)
-  back_by old middle new tx one (Ok false) meets (Told.Answered a, undoes) = undoes_it bits_of old middle new tx one meets a undoes.0 undoes.1 undoes.2
-  back_by old middle new tx one (Ok false) meets (Told.Refused reason, undoes) = absurd (undo_is_told bits_of old middle new tx one meets reason undoes)
-  back_by old middle new tx one (Ok false) meets (other, undoes) = absurd undoes
-  back_by old middle new tx one (Err reason) meets same = absurd (idle_is_idle reason old.txs tx one.one meets.0)
+  back_by old middle new tx one (Told.Aborting false) meets (Told.Answered a, undoes) = undoes_it bits_of old middle new tx one meets a undoes.0 undoes.1 undoes.2
+  back_by old middle new tx one (Told.Aborting false) meets (Told.Refused reason, undoes) = absurd (undo_is_told bits_of old middle new tx one meets reason undoes)
+  back_by old middle new tx one (Told.Aborting false) meets (other, undoes) = absurd undoes
+  back_by old middle new tx one (Told.Refused reason) meets same = absurd (idle_is_idle reason old.txs tx one.one meets.0)
+  back_by old middle new tx one other meets same = absurd meets
 
   -- any desk whose calls are those of its manager
   module _ {D : Type 0} (manager_of : D → ManagerFields P) where
@@ -77,12 +78,12 @@ module _ {P : Type 0} (bits_of : P → ℕ → ℕ) where
         absurd (idle_is_idle reason (manager_of m).txs tx (gives_all old tx d t m one begun plays.1).0.one commits.0)
     closed_alone s old tx d m t (Ok Abort) Aborted e rest one begun plays closes =
         let asked = gives_all old tx d t m one begun plays.1 in
-        let back = back_by (manager_of m) closes.middle (manager_of e) tx asked.0 closes.answer closes.meets closes.undoes in
+        let back = back_by (manager_of m) closes.middle (manager_of e) tx asked.0 closes.said closes.meets closes.undoes in
         (back.0, ended_aborted bits_of s old (manager_of m) (manager_of e) tx t rest plays.0 asked.1 back.1 back.0)
     closed_alone s old tx d m t (Err reason) (Refused other) e rest one begun plays (same, aborts) =
         let asked = gives_all old tx d t plays.middle one begun plays.gives in
         let refused = refused_by (manager_of plays.middle) (manager_of m) tx plays.op asked.0 plays.refused.said reason plays.refused.answers plays.refused.meets in
-        let back = back_by (manager_of m) aborts.middle (manager_of e) tx refused.0 aborts.answer aborts.meets aborts.undoes in
+        let back = back_by (manager_of m) aborts.middle (manager_of e) tx refused.0 aborts.said aborts.meets aborts.undoes in
         subst (λ (r : Refusal). IsAtRest bits_of (manager_of e) × HasRunScript bits_of s old (manager_of e) tx t (Refused r)) (sym (same ∙ marks_itself reason refused.1.can))
         (back.0, ended_refused bits_of s plays.left old (manager_of plays.middle) (manager_of m) (manager_of e) tx t plays.op reason rest plays.reaches plays.asked asked.1 refused.1 back.1 back.0)
     closed_alone s old tx d m t ended end e rest one begun plays closes = absurd closes

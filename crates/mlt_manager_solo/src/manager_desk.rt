@@ -1,7 +1,7 @@
 //! A desk over a manager alone.
 
 ghost use Rattle.std.specs.Prelude.{◌≡◌, []};
-ghost use Rattle.mlt_manager_solo.specs.Desks.{reply_told};
+ghost use Rattle.mlt_manager_solo.specs.Desks.{begun_told, committed_told, reply_told, undoing_told};
 
 use mlt_event::{Answer, Event, Told};
 use mlt_manager::Manager;
@@ -28,6 +28,35 @@ fn reply_of(told: Told) -> Result<ObjReply, Refusal>
     }
 }
 
+/// The number of a transaction, from what its begin was told. No begin is told anything else than these two.
+fn begun_of(told: Told) -> Result<TxId, Refusal>
+    ensures { result ≡ begun_told told }
+{
+    match told {
+        Told::Begun(tx) => Ok(tx),
+        Told::Refused(refusal) => Err(refusal),
+        _ => Err(Refusal::Audit),
+    }
+}
+
+/// The number of a commit, from what that was told. No commit is told anything else than these two.
+fn committed_of(told: Told) -> Result<u64, Refusal>
+    ensures { result ≡ committed_told told }
+{
+    match told {
+        Told::Committed(number) => Ok(number),
+        Told::Refused(refusal) => Err(refusal),
+        _ => Err(Refusal::Audit),
+    }
+}
+
+/// Whether an abort that was told this has something to take back.
+fn is_to_undo(told: Told) -> bool
+    ensures { result ≡ undoing_told told }
+{
+    matches!(told, Told::Aborting(false))
+}
+
 impl<P: Pseudo> Answering for ManagerDesk<P> {
     ghost use Rattle.mlt_manager_solo.specs.Desks.{MeetsCall};
 
@@ -41,20 +70,16 @@ impl<P: Pseudo> Answering for ManagerDesk<P> {
 
 impl<P: Pseudo> Desk for ManagerDesk<P> {
     fn begin(&mut self) -> Result<TxId, Refusal> {
-        self.manager.begin()
+        begun_of(self.manager.act(Event::Begin))
     }
 
     fn commit(&mut self, tx: TxId) -> Result<u64, Refusal> {
-        self.manager.commit(tx)
+        committed_of(self.manager.act(Event::Commit(tx)))
     }
 
     fn abort(&mut self, tx: TxId) {
-        match self.manager.abort(tx) {
-            Ok(false) => {
-                let _told = self.manager.act(Event::WholeUndo(tx));
-            }
-            Ok(true) => (),
-            Err(_) => (),
+        if is_to_undo(self.manager.act(Event::Abort(tx))) {
+            let _told = self.manager.act(Event::WholeUndo(tx));
         }
     }
 }

@@ -6,7 +6,7 @@ use Rattle.mlt_object_kinds.specs.{Bases.Base, Texts.with_number}
 use Rattle.mlt_object_base.specs.BaseText.{base_text}
 use Rattle.mlt_event.specs.declared.{event.Event.Event, told.Told.Told}
 use Rattle.mlt_event_text.specs.{Grammar.Spells, TellTexts.told_line, TellTexts.told_text}
-use Rattle.mlt_manager.specs.{Bases.HasDepth, Events.Plays, Managers.ManagerFields, Promises.IsCommittedBaseOf}
+use Rattle.mlt_manager.specs.{Bases.HasDepth, Courses.TellsAll, Courses.course_of, Courses.opening_course, Events.Plays, Managers.ManagerFields, Promises.IsCommittedBaseOf}
 
 -- the line of a directory's depth
 abbrev pub depth_line : ℕ → List ℕ
@@ -40,12 +40,14 @@ abbrev pub AreToldLines : Bool → List Told → List ℕ → Type 0
 AreToldLines true tolds lines = AreExplained tolds lines
 AreToldLines false tolds lines = lines ≡ told_text tolds
 
--- The events are played from a new manager to this one, and these are the lines of what they were told.
+-- The events are played from a new manager to this one, its course and its history are what they were told, and these are the lines
+-- of that.
 pub record ArePlayedLines {P : Type 0} (bits_of : P → ℕ → ℕ) (limits : Limits) (pseudo : P)
     (explains : Bool) (events : List Event) (manager : ManagerFields P) (lines : List ℕ)
     : Type 0 where
   pub tolds : List Told
   pub played : Plays bits_of limits pseudo events tolds manager
+  pub course : TellsAll opening_course events tolds (course_of manager) manager.shared.history.items
   pub told : AreToldLines explains tolds lines
 
 -- The input spells events, which are played, and the text is that of what they were told, with the reasons where they

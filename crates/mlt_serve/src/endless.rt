@@ -9,6 +9,7 @@ ghost use Rattle.mlt_serve.specs.Endings.{HasAccepted, IsOfServer};
 ghost use Rattle.mlt_serve.specs.Loads.{HasLoaded};
 ghost use Rattle.mlt_serve.specs.Tellings.{HaveCloses, TellsOutcomes};
 ghost use Rattle.mlt_trace_audit.specs.Agreement.{NumbersAgree};
+ghost use Rattle.mlt_work_desk.specs.Playing.{IsMade};
 ghost use Rattle.mlt_work_desk.specs.declared.tries.Tries.TheVariants.{PerOperation};
 
 use crate::operating::{BaseFile, BaseSource, EndSignal, Operating, TraceFile};
@@ -82,6 +83,8 @@ where
     requires base { B.given base ≡ [] }
     // the manager has these limits and this function from keys to pseudokeys
     ensures made { IfOk result (λ got. IsMadeWith got.manager options.now.limits pseudo) }
+    // events have made it from a new one
+    ensures made_by { IfOk result (λ got. IsMade got.manager) }
     // as many transactions were told begun as the manager has begun
     ensures begun { IfOk result
         (λ got. length got.tally.told.items ≡ got.manager.begun) }

@@ -4,7 +4,7 @@ ghost use Rattle.std.specs.Prelude.{◌≡◌, ◌+◌, ◌<◌, ◌≤◌, IfEr
 ghost use Rattle.mlt_manager.specs.Openings.{IsMadeWith};
 ghost use Rattle.mlt_work_desk.specs.LogHandles.{id_of};
 ghost use Rattle.mlt_work_desk.specs.Makings.{making_by};
-ghost use Rattle.mlt_work_desk.specs.Playing.{IsPlayed};
+ghost use Rattle.mlt_work_desk.specs.Playing.{IsMade};
 ghost use Rattle.mlt_work_desk.specs.declared.tries.Tries.TheVariants.{PerOperation};
 ghost use Rattle.mlt_trace_audit.specs.Agreement.{Agrees};
 ghost use Rattle.mlt_serve.specs.Clients.{AreNumbered, AreOfClients};
@@ -194,8 +194,7 @@ where
     ensures made { IfOk result (λ ended. IsMadeWith ended.manager options.now.limits pseudo) }
     ensures history { L.hands_out ≡ false
         → IfOk result (λ ended. ended.manager.shared.history.handed ≡ []) }
-    ensures played { L.hands_out ≡ false
-        → IfOk result (λ ended. IsPlayed P.bits_of ended.manager) }
+    ensures made_by { IfOk result (λ ended. IsMade ended.manager) }
     ensures events { IfOk result (λ ended. ended.manager.events ≡ ended.gathered.events) }
     ensures clients { IfOk result (λ ended. ended.gathered.is_short ≡ false
         → AreOfClients ended.gathered.last (K.receipts ended.gathered.outcomes)) }
@@ -301,8 +300,8 @@ where
     ensures made { IfOk result (λ got. IsMadeWith got.manager options.now.limits pseudo) }
     // all of its history is there
     ensures history { IfOk result (λ got. got.manager.shared.history.handed ≡ []) }
-    // it is one to which events lead from a new one
-    ensures played { IfOk result (λ got. IsPlayed P.bits_of got.manager) }
+    // events have made it from a new one
+    ensures made_by { IfOk result (λ got. IsMade got.manager) }
     // what clients were told is what the manager has done
     ensures outcomes { IfOk result
         (λ got. Agrees got.outcomes got.manager.shared.history.items) }

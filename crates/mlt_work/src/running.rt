@@ -3,7 +3,7 @@
 ghost use Rattle.std.specs.Prelude.{◌≡◌, ◌≤◌, ◌<◌, ◌⊎◌, [], false, IfErr, IfOk, Some};
 ghost use Rattle.mlt_work_desk.specs.LogHandles.{id_of};
 ghost use Rattle.mlt_work_desk.specs.Makings.{making_by};
-ghost use Rattle.mlt_work_desk.specs.Playing.{IsPlayed};
+ghost use Rattle.mlt_work_desk.specs.Playing.{IsMade};
 ghost use Rattle.mlt_work_desk.specs.declared.tries.Tries.TheVariants.{PerScript};
 ghost use Rattle.mlt_work.specs.Places.{scripts_of_clients};
 ghost use Rattle.mlt_work.specs.Runs.{HasRunAll};
@@ -69,7 +69,7 @@ fn run_with<
     ensures ran { IfOk result (λ got.
         HasRunAll P.bits_of (scripts_of_clients clients.now) options.now pseudo got.0 got.1
         × (got.1.shared.history.handed ≡ [])) }
-    ensures played { IfOk result (λ got. IsPlayed P.bits_of got.1) }
+    ensures made_by { IfOk result (λ got. IsMade got.1) }
     ensures refusal { IfErr result
         (λ refusal. (refusal ≡ Refusal.OutOfMemory) ⊎ (refusal ≡ Refusal.Audit)) }
 {
@@ -148,8 +148,8 @@ pub fn run<P: Pseudo + Drop + Send, R: Threads + Wait + Clock + Sync, G: Gate + 
         HasRunAll P.bits_of (scripts_of_clients clients.now) options.now pseudo got.0 got.1) }
     // all of the history is there
     ensures history { IfOk result (λ got. got.1.shared.history.handed ≡ []) }
-    // it is one to which events lead from a new one
-    ensures played { IfOk result (λ got. IsPlayed P.bits_of got.1) }
+    // events have made it from a new one
+    ensures made_by { IfOk result (λ got. IsMade got.1) }
     ensures refusal { IfErr result
         (λ refusal. (refusal ≡ Refusal.OutOfMemory) ⊎ (refusal ≡ Refusal.Audit)) }
 {

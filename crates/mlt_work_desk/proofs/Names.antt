@@ -1,6 +1,6 @@
 -- Names of other crates, of std and of specs/ that two files of these proofs or more import. Declares nothing.
 pub use Rattle.mlt_event.specs.declared.{answer.Answer.Answer, event.Event.Event, told.Told.Told}
-pub use Rattle.mlt_manager.specs.{Answers.counted, Events.Meets, Managers.ManagerFields, Tolds.AddsItems, Tolds.CalledOps}
+pub use Rattle.mlt_manager.specs.{Answers.counted, Events.Meets, Managers.ManagerFields}
 pub use Rattle.mlt_object_kinds.specs.declared.operation.{ObjOp.ObjOp, ObjReply.ObjReply}
 pub use Rattle.mlt_script_serial.specs.declared.call.{DeskAnswer.TheVariants.Aborted, DeskAnswer.TheVariants.Replied, DeskCall.DeskCall}
 pub use Rattle.mlt_trace.specs.declared.item.TraceItem.{TraceItem}

@@ -1,69 +1,45 @@
 -- A manager under a lock has executed one more event.
-use Rattle.std.proofs.Common.{◌≡◌, ◌<◌, ℕ, ◌+◌, ◌-◌, ◌^◌, min, List, [], ◌∷◌, ◌++◌, length, map, refl, subst, sym, length-append, arith}
+use Rattle.std.proofs.Common.{◌≡◌, ◌∙◌, ◌+◌, ◌-◌, ◌^◌, min, List, [], ◌∷◌, ◌++◌, length, map, ap, subst, sym, length-append, arith}
 use Rattle.std.proofs.lemmas.{Grind.merely, List.map-append}
 use mathlib.Core.Logic.{∥∥₁_map}
-use Rattle.mlt_work_desk.proofs.Names.{Event, Told, counted, Meets, ManagerFields}
-use Rattle.mlt_types.specs.declared.limits.Limits.{Limits}
-use Rattle.mlt_manager.{specs.Events.IsRun, specs.Events.Plays, specs.Openings.IsNew, specs.Promises.KeepsPromises, proofs.Courses.played_course, proofs.Tolds.history_told}
-use Rattle.mlt_work_desk.{proofs.Counting.one_event, specs.Playing.ArePlayed, specs.Playing.HasPlayed, specs.Playing.IsPlayed}
+use Rattle.mlt_work_desk.proofs.Names.{TraceItem, Event, Told, ManagerFields}
+use Rattle.mlt_manager.{specs.Courses.Course, specs.Courses.HasAdded, specs.Courses.Tells, specs.Courses.TellsAll, specs.Courses.course_of, specs.Courses.opening_course, specs.HandingOut.HandsOut, proofs.Courses.tells_on}
+use Rattle.mlt_work_desk.specs.{Playing.HaveMade, declared.log_handles.Past.Past}
 
-module _ {P : Type 0} (bits_of : P → ℕ → ℕ) (keys : (p : P) (number : ℕ) → bits_of p number < 2 ^ 64) where
-  run_on : (old m m' : ManagerFields P) (events : List Event) (tolds : List Told) (e : Event) (t : Told)
-      → IsRun bits_of old events tolds m → Meets bits_of e t (counted m) m' → IsRun bits_of old (events ++ e ∷ []) (tolds ++ t ∷ []) m'
-  run_on old m m' [] [] e t same meets = (m', subst (λ (n : ManagerFields P). Meets bits_of e t (counted n) m') same meets, refl)
-  run_on old m m' [] (told ∷ tolds) e t none meets = absurd none
-  run_on old m m' (event ∷ events) [] e t none meets = absurd none
-  run_on old m m' (event ∷ events) (told ∷ tolds) e t (next, first, rest) meets = (next, first, run_on next m m' events tolds e t rest meets)
-
-  -- what a run from a new manager has played
-  by_run : (limits : Limits) (pseudo : P) (first m : ManagerFields P) (events : List Event) (tolds : List Told) → IsNew first limits pseudo → IsRun bits_of first events tolds m
-      → m.events ≡ min (length events) (2 ^ 64 - 1) → KeepsPromises bits_of m → HasPlayed bits_of events tolds m
-  by_run limits pseudo first m events tolds new run count promises =
-      let plays : Plays bits_of limits pseudo events tolds m = record {
-        first = first;
-        is_new = new;
-        run = run;
-        told = history_told bits_of limits pseudo events tolds first m new run;
-        promises = promises;
-      } in
-      let course = played_course bits_of limits pseudo events tolds m keys plays in
-      record {
-        limits = limits;
-        pseudo = pseudo;
-        plays = plays;
-        count = count;
-        course = course.0;
-        tells = course.1;
-        keeps = course.2;
-        items = plays.told;
-      }
-
-  -- **A new manager has played nothing.**
-  pub new_played : (limits : Limits) (pseudo : P) (m : ManagerFields P) → IsNew m limits pseudo → KeepsPromises bits_of m → ArePlayed bits_of [] m
-  new_played limits pseudo m new promises =
-      let none = new.events in
+module _ {P : Type 0} where
+  -- **No event has made the course of a new manager.**
+  pub none_made : (m : ManagerFields P) → m.events ≡ 0 → course_of m ≡ opening_course → m.shared.history.items ≡ [] → HaveMade [] m
+  none_made m none new no_items =
       let count : m.events ≡ min 0 (2 ^ 64 - 1) = omega (arith, none) in
-      merely (by_run limits pseudo m m [] [] new refl count promises)
+      merely (count, (new, no_items))
 
   -- **An event is one more.**
-  more_played : (events : List Event) (tolds : List Told) (e : Event) (t : Told) (m m' : ManagerFields P) → Meets bits_of e t (counted m) m' → KeepsPromises bits_of m'
-      → HasPlayed bits_of events tolds m → HasPlayed bits_of (events ++ e ∷ []) (tolds ++ t ∷ []) m'
-  more_played events tolds e t m m' meets promises h =
-      let counts : m'.events ≡ min (m.events + 1) (2 ^ 64 - 1) = one_event bits_of e t m m' meets in
-      let before = h.count in
-      let long : length (events ++ e ∷ []) ≡ length events + 1 = length-append events (e ∷ []) in
-      by_run h.limits h.pseudo h.plays.first m' (events ++ e ∷ []) (tolds ++ t ∷ []) h.plays.is_new (run_on h.plays.first m m' events tolds e t h.plays.run meets)
-      (omega (arith, counts, before, long)) promises
-
-  pub still_played : (acts now : List (Event × Told)) (e : Event) (t : Told) (m m' : ManagerFields P) → now ≡ acts ++ (e, t) ∷ [] → Meets bits_of e t (counted m) m' → KeepsPromises bits_of m'
-      → ArePlayed bits_of acts m → ArePlayed bits_of now m'
-  still_played acts now e t m m' is meets promises played =
+  pub one_more_made : (acts now : List (Event × Told)) (e : Event) (t : Told) (m m' : ManagerFields P) → now ≡ acts ++ (e, t) ∷ [] → m'.events ≡ min (m.events + 1) (2 ^ 64 - 1)
+      → Tells (course_of m) e t (course_of m') → HasAdded (course_of m) e t (course_of m') m.shared.history.items m'.shared.history.items → HaveMade acts m → HaveMade now m'
+  one_more_made acts now e t m m' is counts tells adds made =
+      let all = acts ++ (e, t) ∷ [] in
       let events = map-append (λ (act : Event × Told). act.0) acts ((e, t) ∷ []) in
       let tolds = map-append (λ (act : Event × Told). act.1) acts ((e, t) ∷ []) in
-      let longer : ArePlayed bits_of (acts ++ (e, t) ∷ []) m' = ∥∥₁_map played (λ h. subst (λ es. HasPlayed bits_of es (map (λ (act : Event × Told). act.1) (acts ++ (e, t) ∷ [])) m') (sym events)
-      (subst (λ ts. HasPlayed bits_of (map (λ (act : Event × Told). act.0) acts ++ e ∷ []) ts m') (sym tolds) (more_played _ _ e t m m' meets promises h))) in
-      subst (λ xs. ArePlayed bits_of xs m') (sym is) longer
+      let items = m'.shared.history.items in
+      let long : length all ≡ length acts + 1 = length-append acts ((e, t) ∷ []) in
+      let longer : HaveMade all m' = ∥∥₁_map made (λ h.
+      let before = h.0 in
+      let count : m'.events ≡ min (length all) (2 ^ 64 - 1) = omega (arith, counts, before, long) in (
+        count,
+        subst (λ es. TellsAll opening_course es (map (λ (act : Event × Told). act.1) all) (course_of m') items) (sym events)
+            (subst (λ ts. TellsAll opening_course (map (λ (act : Event × Told). act.0) acts ++ e ∷ []) ts (course_of m') items) (sym tolds)
+            (tells_on opening_course (course_of m) (course_of m') _ _ m.shared.history.items items e t h.1 tells adds)),
+      )) in
+      subst (λ xs. HaveMade xs m') (sym is) longer
 
--- there are the events that have led to it
-pub is_played : {P : Type 0} (bits_of : P → ℕ → ℕ) (acts : List (Event × Told)) (m : ManagerFields P) → ArePlayed bits_of acts m → IsPlayed bits_of m
-is_played bits_of acts m played = ∥∥₁_map played (λ h. (map (λ (act : Event × Told). act.0) acts, map (λ (act : Event × Told). act.1) acts, h))
+  -- **What is handed out changes nothing of it.**
+  pub still_made : (acts : List (Event × Told)) (m m' : ManagerFields P) → HandsOut m m' → HaveMade acts m → HaveMade acts m'
+  still_made acts m m' hands made = ∥∥₁_map made (λ h. (
+    ap (λ (n : ManagerFields P). n.events) hands.same ∙ h.0,
+    subst (λ (x : Course × List TraceItem). TellsAll opening_course (map (λ (act : Event × Told). act.0) acts) (map (λ (act : Event × Told). act.1) acts) x.0 x.1)
+        (sym (ap (λ (n : ManagerFields P). (course_of n, n.shared.history.items)) hands.same)) h.1,
+  ))
+
+  -- the same past is as before
+  pub same_made : (past past' : Past) (m : ManagerFields P) → past' ≡ past → HaveMade past.acts m → HaveMade past'.acts m
+  same_made past past' m same made = subst (λ (p : Past). HaveMade p.acts m) (sym same) made

@@ -1,7 +1,7 @@
 -- What a step with a reply leaves, and whose reply it is.
 use Rattle.std.proofs.Common.{◌≡◌, ◌≢◌, ◌∙◌, ◌+◌, ℕ, List, ◌++◌, length, false, ap, refl, subst, sym, arith, length-append}
-use Rattle.mlt_work_desk.proofs.Names.{false≢true, ObjReply, TraceItem, Answer, Event, Told, counted, Meets, ManagerFields, IfReply, is_done}
-use Rattle.mlt_work_desk.proofs.Adding.{event_adds}
+use Rattle.mlt_work_desk.proofs.Names.{false≢true, ObjReply, TraceItem, Answer, Event, Told, ManagerFields, IfReply, is_done}
+use Rattle.mlt_manager.specs.Courses.{AddsItems, Course, HasAdded}
 
 -- what is so of each reply to a step
 of_reply : (X : Type 0) (e : Event) (t : Told) → ((tx : ℕ) (reply : ObjReply) → e ≡ Event.Step tx → t ≡ Told.Answered (Answer.Done reply) → X) → IfReply e t X
@@ -36,14 +36,13 @@ reply_then X Y e t follows is = of_reply Y e t (λ tx reply step was.
     follows (subst (λ u. IfReply (Event.Step tx) u X) was (subst (λ a. IfReply a t X) step is)))
 
 -- the item of a reply was not handed out before, and so it is kept
-pub keeps_reply : {P : Type 0} (bits_of : P → ℕ → ℕ) (e : Event) (t : Told) (m m' : ManagerFields P) (kept : List TraceItem)
+pub keeps_reply : {P : Type 0} (c d : Course) (e : Event) (t : Told) (m m' : ManagerFields P) (kept : List TraceItem)
     → m.shared.history.items ≡ m.shared.history.handed ++ kept → m'.shared.history.handed ≡ m.shared.history.handed
-    → Meets bits_of e t (counted m) m' → IfReply e t (m'.shared.history.items ≢ m'.shared.history.handed)
-keeps_reply bits_of e t m m' kept whole same meets = of_reply _ e t (λ tx reply step was all.
-    let adds = event_adds bits_of (Event.Step tx) (Told.Answered (Answer.Done reply)) m m'
-    (subst (λ u. Meets bits_of (Event.Step tx) u (counted m) m') was (subst (λ a. Meets bits_of a t (counted m) m') step meets)) in
-    let here : length adds.0 ≡ 1 = ap length adds.3.2 in
-    let now : length m'.shared.history.items ≡ length m.shared.history.items + length adds.0 = ap length adds.2 ∙ length-append m.shared.history.items adds.0 in
+    → HasAdded c e t d m.shared.history.items m'.shared.history.items → IfReply e t (m'.shared.history.items ≢ m'.shared.history.handed)
+keeps_reply c d e t m m' kept whole same (added, is, adds) = of_reply _ e t (λ tx reply step was all.
+    let replied : AddsItems c (Event.Step tx) (Told.Answered (Answer.Done reply)) d added = subst (λ u. AddsItems c (Event.Step tx) u d added) was (subst (λ a. AddsItems c a t d added) step adds) in
+    let here : length added ≡ 1 = ap length replied.2 in
+    let now : length m'.shared.history.items ≡ length m.shared.history.items + length added = ap length is ∙ length-append m.shared.history.items added in
     let had : length m.shared.history.items ≡ length m.shared.history.handed + length kept = ap length whole ∙ length-append m.shared.history.handed kept in
     let none : length m'.shared.history.items ≡ length m'.shared.history.handed = ap length all in
     let handed : length m'.shared.history.handed ≡ length m.shared.history.handed = ap length same in

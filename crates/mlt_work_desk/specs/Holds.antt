@@ -6,7 +6,7 @@ use Rattle.mlt_script_serial.specs.declared.call.{DeskAnswer.DeskAnswer, DeskCal
 use Rattle.mlt_script_serial.specs.declared.call.DeskAnswer.TheVariants.{Begun, Replied, Committed, Aborted, Refused}
 use Rattle.mlt_event.specs.declared.{answer.Answer.Answer, event.Event.Event, told.Told.Told}
 use Rattle.mlt_trace.specs.{Items.TellsOf, declared.item.TraceItem.TraceItem}
-use Rattle.mlt_manager.specs.{Answers.counted, Events.Meets, Managers.IsManager, Managers.ManagerFields, Tolds.AddsItems, Tolds.CalledOps}
+use Rattle.mlt_manager.specs.{Answers.counted, Courses.AddsItems, Courses.Course, Events.Meets, Managers.IsManager, Managers.ManagerFields}
 use Rattle.mlt_work_desk.specs.{Acts.AreEventsFor, Tries.GivesUp, Tries.SpendsTries, Views.DeskView, Views.HasMade, declared.tries.TriesLeft.TriesLeft}
 use Rattle.mlt_work_waits.specs.Gates.{is_to_wait}
 
@@ -39,10 +39,11 @@ ComesOfAnother other items op = ⊥
 -- and what the event has added.
 pub record SeesEvent (before : List TraceItem) (event : Event) (told : Told) (after : List TraceItem) : Type 0 where
   pub between : List TraceItem
+  pub course : Course
+  pub next : Course
   pub here : List TraceItem
-  pub called : CalledOps
   pub whole : after ≡ (before ++ between) ++ here
-  pub adds : AddsItems event told called here
+  pub adds : AddsItems course event told next here
 
 -- the transaction that an event began, if it did
 abbrev pub txs_begun : Event → Told → List ℕ

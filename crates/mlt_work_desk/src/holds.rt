@@ -4,6 +4,7 @@ ghost use Rattle.std.specs.Prelude.{◌≡◌, ◌++◌, ◌∷◌, ◌+◌, ◌
 ghost use Rattle.mlt_event.specs.declared.event.Event.{Event};
 ghost use Rattle.mlt_event.specs.declared.told.Told.{Told};
 ghost use Rattle.mlt_manager.specs.Answers.{counted};
+ghost use Rattle.mlt_manager.specs.Courses.{Tells, course_of};
 ghost use Rattle.mlt_manager.specs.Events.{Meets};
 ghost use Rattle.mlt_manager.specs.Managers.{IsManager};
 ghost use Rattle.mlt_work_waits.specs.declared.wait.Waker.{Waker};
@@ -47,7 +48,6 @@ impl<P: Pseudo, L: MadeWith<P>> LockedState<P, L> {
         ensures refusal { IsOkUnless result Refusal.OutOfMemory }
     {
         let manager = Manager::new(alloc, limits, pseudo)?;
-        manager.keeps_its_promises();
         Ok(LockedState {
             manager,
             book,
@@ -79,6 +79,8 @@ impl<P: Pseudo, L: MadeWith<P>> LockedState<P, L> {
         ensures sees { SeesEvent (first_items snapshot.old) event result.0
             (first_items snapshot.new) }
         ensures begun { HasBegun (begun_by snapshot.old) event result.0 (begun_by snapshot.new) }
+        ensures course { Tells (course_of self.old.manager) event result.0
+            (course_of self.new.manager) }
         ensures before { IsManager P.bits_of self.old.manager }
         ensures after { IsManager P.bits_of self.new.manager }
         ensures meets { Meets P.bits_of event result.0
@@ -111,7 +113,6 @@ impl<P: Pseudo, L: MadeWith<P>> LockedState<P, L> {
         manager.kept_history();
         let told = manager.act(event);
         manager.keeps_its_invariant();
-        manager.keeps_its_promises();
         see_act::<Brand, P>(log, writer, snapshot, manager, &event, &told);
         let turn = desks.turn_after(&event, &told, may_sleep, thread, wakers);
         (told, turn)

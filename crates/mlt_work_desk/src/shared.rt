@@ -3,7 +3,7 @@
 ghost use Rattle.std.specs.Prelude.{◌≡◌, ◌-◌, ◌^◌, [], false, true, Some, min};
 ghost use Rattle.mlt_work_desk.specs.LogHandles.{IsOf, begun_by, id_of, seen_by};
 ghost use Rattle.mlt_work_desk.specs.Makings.{making_of};
-ghost use Rattle.mlt_work_desk.specs.Playing.{IsPlayed};
+ghost use Rattle.mlt_work_desk.specs.Playing.{IsMade};
 
 use crate::locked_state::LockedState;
 use crate::log_handles::{HistoryLog, LogSnapshot};
@@ -223,7 +223,7 @@ impl<P: Pseudo, L: MadeWith<P>> Shared<P, L> {
         ensures events { result.events ≡ min all.old.amount (2 ^ 64 - 1) }
         ensures made { Some (making_of result) ≡ L.made_with }
         ensures history { L.hands_out ≡ false → result.shared.history.handed ≡ [] }
-        ensures played { L.hands_out ≡ false → IsPlayed P.bits_of result }
+        ensures made_by { IsMade result }
         ensures amount { all.new.amount ≡ all.old.amount }
         ensures parts { all.new.parts ≡ all.old.parts }
     {

@@ -5,7 +5,7 @@ ghost use Rattle.mlt_trace.specs.Numbers.{begun_txs};
 ghost use Rattle.mlt_work_desk.specs.Prefixes.{StartsWith, times};
 ghost use Rattle.mlt_work_desk.specs.LogHandles.{IsOf, begun_by, first_items, id_of};
 ghost use Rattle.mlt_work_desk.specs.Makings.{making_of};
-ghost use Rattle.mlt_work_desk.specs.Playing.{IsPlayed};
+ghost use Rattle.mlt_work_desk.specs.Playing.{IsMade};
 
 use crate::locked_state::LockedState;
 use crate::log_handles::{HistoryLog, LogSnapshot};
@@ -65,7 +65,7 @@ impl<P: Pseudo, L: MadeWith<P>> Unlocked<P, L> {
         ensures events { result.events ≡ min all.old.amount (2 ^ 64 - 1) }
         ensures made { Some (making_of result) ≡ L.made_with }
         ensures history { L.hands_out ≡ false → result.shared.history.handed ≡ [] }
-        ensures played { L.hands_out ≡ false → IsPlayed P.bits_of result }
+        ensures made_by { IsMade result }
         ensures amount { all.new.amount ≡ all.old.amount }
         ensures parts { all.new.parts ≡ all.old.parts }
     {
@@ -83,6 +83,7 @@ impl<P: Pseudo, L: MadeWith<P>> Unlocked<P, L> {
     /// The manager, where the shares are not at hand.
     pub fn into_manager(self) -> Manager<P>
         ensures made { Some (making_of result) ≡ L.made_with }
+        ensures made_by { IsMade result }
     {
         let Unlocked { state, log: _ } = self;
         let LockedState {

@@ -12,6 +12,7 @@ pub returns-in-Ok-clause-plays : goal.returns-in-Ok-clause-plays
 returns-in-Ok-clause-plays g c = record {
   tolds = c.in_ok-manager.tolds.items;
   played = c.in_ok-manager.ensures.plays;
+  course = c.in_ok-manager.ensures.course.0;
   told = subst (λ (explains : Bool). AreToldLines explains c.in_ok-manager.tolds.items (string_bytes c.in-Ok.lines)) (sym c.if-explains.false)
       (c.in-Ok.ensures.text ∙ ap told_text c.as_slice.ensures.value);
 }

@@ -1,0 +1,5 @@
+use Rattle.mlt_work_desk.proofs.Playing.{same_made}
+use Rattle.mlt_work_desk.proofs.locked_state.LockedState.snapshot.Goals as goal
+
+pub invariant_of-self-clause-made_by : goal.invariant_of-self-clause-made_by
+invariant_of-self-clause-made_by g c = same_made _ _ c.args.self.now.manager c.snapshot.ensures.same c.args.self.now.made_by
