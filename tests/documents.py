@@ -7,6 +7,7 @@ import subprocess
 from html import unescape
 from itertools import zip_longest
 from pathlib import Path
+from typing import NamedTuple
 from urllib.parse import unquote
 from urllib.request import urlopen
 
@@ -95,7 +96,7 @@ def each_link_to_a_line_leads_to_what_it_names(_mltx: Program) -> None:
             line = ([""] + (page.parent / path).read_text().splitlines())[int(number)]
             holds(re.search(rf"\bfn {name}\b", line), f"{page.relative_to(ROOT)}: line {number} of {path} is {line!r}")
     linked = [(name, path) for name, path, _ in LINE_LINK.findall((ROOT / "README.md").read_text())]
-    same(linked, [("play", "crates/mlt_manager/src/manager.rt")], "the lines that README links")
+    same(linked, [("act", "crates/mlt_manager/src/manager.rt")], "the lines that README links")
 
 
 def defines(text: str, name: str) -> bool:
@@ -250,6 +251,61 @@ def figures_are_those_that_were_measured(_mltx: Program) -> None:
     drawn = dict(re.findall(r">([\w ]+): ([\d,]+)<", (ROOT / "docs/pictures/hotspots.svg").read_text()))
     same(drawn.pop("no lock"), "14,400", "the limit in the picture")
     same(drawn, {name: f"{figure:,.0f}" for name, figure in commits(64).items()}, "the figures in the picture")
+
+
+class Change(NamedTuple):
+    """A change of a file under crates/: each text of it that is replaced, by what, and what HEADLINE then has or has not."""
+
+    path: str
+    texts: dict[str, str]
+    shown: str = ""
+    hidden: str = ""
+
+
+COURSES, RUNS = "mlt_manager/specs/Courses.antt", "mlt_work/specs/Runs.antt"
+ACT = "    pub fn act(&mut self, event: Event) -> Told\n"
+COUNTED = "  -- the events that the workers counted are those of the manager\n"
+BUSY, IS_BUSY = "-- an operation is pending, or the abort has begun\n", "(life ≢ NotOpen) × (life ≢ Idle)"
+HELPER = f"at_work : Life → Type 0\nat_work life = {IS_BUSY}\n\n"
+USES_HELPER = {f"IsBusy life = {IS_BUSY}": "IsBusy life = at_work life"}
+
+
+@each({
+    "a-premise-is-shown": Change("mlt_manager/src/manager.rt", {ACT: f"{ACT}        requires never {{ 7 ≡ 8 }}\n"},
+                                 "event: Event) -> Told // in part\n    requires never { 7 ≡ 8 }\n"),
+    "a-comment-is-shown-over-its-field": Change(RUNS, {COUNTED: "", "  pub outcomes :": f"{COUNTED}  pub outcomes :"},
+                                                f"{COUNTED}  pub outcomes :"),
+    "the-comment-of-a-field-that-is-left-out-is-not-shown": Change(
+        RUNS, {"-- the manager has these limits": "-- LEFT OUT"}, "HasRunAll", "LEFT OUT"),
+    "a-helper-is-named": Change(COURSES, {BUSY: f"-- is at something\n{HELPER}{BUSY}", **USES_HELPER},
+                                "| `at_work` | is at something |"),
+})
+def the_headline_shows_a_change(mltx: Program, change: Change) -> None:
+    """HEADLINE changes where a premise is added to a contract, a comment is moved to another field, or a helper is used."""
+    text = text_of_headline(mltx, change)
+    same(text.returncode, 0, text.stderr)
+    holds(change.shown in text.stdout, f"HEADLINE does not show {change.shown}")
+    holds(not change.hidden or change.hidden not in text.stdout, f"HEADLINE shows {change.hidden}")
+
+
+@test
+def the_headline_hides_no_helper(mltx: Program) -> None:
+    """tools/headline-lines stops at a private helper that has no comment."""
+    text = text_of_headline(mltx, Change(COURSES, {BUSY: HELPER + BUSY, **USES_HELPER}))
+    holds(text.returncode != 0 and "at_work is private" in text.stderr, f"{text.returncode}: {text.stderr}")
+
+
+def text_of_headline(mltx: Program, change: Change) -> subprocess.CompletedProcess[str]:
+    """What tools/headline-lines prints after the change, in a copy."""
+    for folder in ("tools", "crates"):
+        shutil.copytree(ROOT / folder, mltx.folder / folder, ignore=shutil.ignore_patterns("out", "proofs", "must-fail", "data"))
+    file = mltx.folder / "crates" / change.path
+    text = file.read_text()
+    for old, new in change.texts.items():
+        same(text.count(old), 1, f"how often {change.path} has {old}")
+        text = text.replace(old, new)
+    file.write_text(text)
+    return subprocess.run([mltx.folder / "tools/headline-lines", "--text"], capture_output=True, text=True)
 
 
 @test

@@ -28,12 +28,14 @@ SENTENCES: list[tuple[str, list[tuple[str, str]]]] = [(
     commit order from the empty base, give exactly the replies that they were told, and the base so reached is what the pages
     mean, read through both maps, once the pages of running subtransactions are put back and the operations of open transactions
     are taken back.""", [
-        ("any list", "`events` of [[Manager::play]]"),
+        ("any list", "[[Manager::new]], and then any [[Manager::act]]s"),
+        ("any number of transactions",
+         "[[MayRefuse]]: by their limits managers have 64 open, and begin 2^32, or 2^63 - 1 in all"),
         ("committed transactions", "`committed` of the [[Course]]"),
         ("alone in commit order", "`alone` of [[IsSerializable]]"),
         ("empty base", "[[empty_base]]"),
         ("exactly the replies", "[[Step]]: a base gives an operation at most one"),
-        ("were told", "[[TellsAll]]"),
+        ("were told", "[[Tells]]"),
         ("base so reached", "`base` of [[IsSerializable]]"),
         ("what the pages mean", "`means` of [[KeepsPromiseOver]]"),
         ("both maps", "[[IsRecordOf]], [[HoldsIn]]"),
@@ -42,17 +44,18 @@ SENTENCES: list[tuple[str, list[tuple[str, str]]]] = [(
     ]), (
     """The same holds whenever the lock of running threads is free. Each call of the manager under it is one event, and none is
     lost. Every history passes the checker of traces, and what `run` and `serve_on` return stands in the history.""", [
-        ("The same", "[[HasPlayed]]"),
-        ("whenever the lock", "`played` of [[LockedState]]"),
-        ("one event", "`acts` of [[LockedState::act]]"),
-        ("none is lost", "`first` of [[LockedState::compare]]"),
-        ("checker", "[[Manager::passes_the_checker]]"),
+        ("The same", "[[Manager::keeps_its_promises]]"),
+        ("whenever the lock", "`manager` of [[LockedState]]"),
+        ("one event", "`course` and `acts` of [[LockedState::act]]"),
+        ("none is lost", "`made_by` of [[LockedState]], `first` of [[LockedState::compare]]"),
+        ("checker", "[[Manager::passes_the_checker]], [[check]]"),
         ("return", "the [[Outcome]]s of [[run]] and [[serve_on]]"),
         ("in the history", "[[Agrees]]"),
     ]),
 ]
 
-HOW_TO_READ = """`.rt` is Rattle, Rust with contracts; `.antt` is its logic. `in part`: fields or clauses are left out."""
+HOW_TO_READ = """`.rt` is Rattle, Rust with contracts; `.antt` is its logic. `in part`: fields or clauses are left out, but no
+`requires`. Cases of a type share lines here."""
 NOTATION: list[tuple[str, str]] = [
     ("`A → B → C`", "functions of an `A` and a `B` to a `C`. The first line that fits counts; `_` or a name fits all"),
     ("`Type 0`", "statements; kinds of values"),
@@ -62,10 +65,10 @@ NOTATION: list[tuple[str, str]] = [
     ("`⊥`, `Unit {0}`", "false; true. A map to `Unit {0}` is a set"),
     ("`(a, b)`, `x.0`", "a pair; its first part"),
     ("`xs ++ y ∷ ys`", "`xs ++ (y ∷ ys)`. Arguments bind first, then `∷`, `++`, then `≡`, `<`, then `×`, then `→`"),
-    ("`record`",
-     "named fields; a statement holds of those before it: there are such values. `record r { f = v; }` has another `f`"),
+    ("`record`", "named fields; a statement holds of those before it: there are such values, as `base` and `state` in "
+     "[[IsSerializable]]. `record r { f = v; }` has another `f`"),
     ("`data`, `enum`", "cases; two types may share a name"),
-    ("`ensures`", "holds when the call returns"),
+    ("`requires`, `ensures`", "holds when a call is made; when it returns"),
     ("`ghost name:`", "holds of values that no call is at work on"),
     ("`x.now`, `x.old`, `x.new`", "what the reference `x` leads to; before the call; after it"),
     ("`{X : Type 0}`", "for any `X`"),
@@ -74,13 +77,17 @@ NOTATION: list[tuple[str, str]] = [
 
 ONE: list[Section] = [
     Section("The contract",
-            """`played.0` is the manager that `play` returns, `played.1.items` the answers. By clause `plays`, not shown, each
-            event meets the contract of its call. If memory runs out, `play` returns OutOfMemory and promises nothing.""", [
-                Block("mlt_manager/src/manager.rt", "Manager.play():course,refusal"),
+            """`course_of` is some function of a manager. These four calls say all that is said of it. Every manager comes from
+            `new`, and only `act` and `take_history` change one: its field is private, as are its other calls that change it.
+            `steps` calls `act` for each event, by [`play`](../crates/mlt_manager/src/manager.rt), which says the same of a list
+            of events.""", [
+                Block("mlt_manager/src/manager.rt", "Manager.new():course,refusal Manager.act():course "
+                      "Manager.take_history():course Manager.keeps_its_promises()"),
             ]),
     Section("The main promise",
             """A manager that refused every begin, for want of memory, would keep the promise.""", [
-                Block("mlt_manager/specs/Courses.antt", "IsSerializable KeepsPromiseOver"),
+                Block("mlt_manager/specs/Promises.antt", "KeepsPromises:main"),
+                Block("mlt_manager/specs/Courses.antt", "KeepsPromiseOver IsSerializable"),
             ]),
     Section("Events and answers",
             """Not shown: a step touches at most one page.""", [
@@ -90,9 +97,10 @@ ONE: list[Section] = [
             ]),
     Section("The course that events tell",
             """A transaction that aborts later got replies of a serial run, too. No line lets an undoing be blocked or refused:
-            it never meets a missing slot. Only in `plays` is why an operation is refused, which limit is reached, what one waits
-            for, and how much a whole undoing that waits has undone.""", [
-                Block("mlt_manager/specs/Courses.antt", "TellsAll Tells MayRefuse Turns Course opening_course IsBusy Life Ops"),
+            it never meets a missing slot. Not shown (clause `meets` of `act`): which limit is reached, what one waits for, when
+            there is no room, and how much a whole undoing that waits has undone.""", [
+                Block("mlt_manager/specs/Courses.antt",
+                      "Ops Life IsBusy Course opening_course Turns Tells MayRefuse MayRefuseCall reason_at"),
                 Block("mlt_order/specs/Tables.antt", "table_with"),
             ]),
     Section("Commit order",
@@ -118,28 +126,17 @@ ONE: list[Section] = [
     Section("What the pages mean",
             """A live slot is a record; a ghost keeps room for one that may come back. Not read are the directory, and live
             slots whose key is of no cell in range.""", [
-                Block("mlt_manager/specs/Headline.antt", "PagesMean HoldsIn IsRecordOf HasLiveSlot"),
+                Block("mlt_manager/specs/Headline.antt", "PagesMean HoldsIn IsRecordOf IsLiveAt"),
                 Block("mlt_types/specs/Cells.antt", "key_number IsInRange"),
                 Block("mlt_page/src/page.rt", "Page"),
                 Block("mlt_page/specs/Values.antt", "BucketFields"),
                 Block("mlt_page/src/slot.rt", "Slot"),
             ]),
     Section("First images and clean pages",
-            """A *subtransaction* is one operation, or the undoing of one. Until it ends, it keeps the first image
-            of each page that it writes: the page as it was, or `None` where there was none. Not shown (field `locks` of
-            [[KeepsPromises]]): it has locked that page exclusively.""", [
+            """A *subtransaction* is one operation, or the undoing of one. Until it ends, it keeps the first image of each page
+            that it writes: the page as it was, or `None` where there was none. It has locked that page exclusively.""", [
                 Block("mlt_manager/specs/Bases.antt", "HasCleanPages"),
                 Block("mlt_tx/specs/Tables.antt", "KeepsImage KeepsNoImage"),
-            ]),
-    Section("One live slot a key",
-            """By [[IsRecordOf]] a key may have two live slots with one value. This contract of every manager excludes
-            that, on the same clean pages.""", [
-                Block("mlt_manager/src/manager.rt", "Manager.keeps_its_promises()"),
-                Block("mlt_manager/specs/Promises.antt", "KeepsPromises:main,file"),
-                Block("mlt_manager/specs/Headline.antt", "KeepsMainPromise:clean,put_back"),
-                Block("mlt_hash_form/specs/Prefixes.antt", "IsExtendibleHashFile:once"),
-                Block("mlt_hash_form/specs/File.antt", "IsOnceLive"),
-                Block("mlt_hash_form/specs/Form.antt", "slot_at"),
             ]),
     Section("Views",
             """A *view* is the value that the memory of a type stands for. Other types are seen by fields or cases, arrays,
@@ -156,32 +153,30 @@ TWO: list[Section] = [
     Section("Under the lock",
             """Threads share a manager behind a mutex. While that is free, the invariants of [[LockedState]] hold. A desk makes
             each event by [[LockedState::act]], which adds it and its answer to the past. What the desk has then seen of the past
-            stays its beginning for ever. Not shown: nothing else under the lock changes the manager but handing out its history,
-            and a `run` or a server has one lock.
-
-            `L.hands_out` is true for `serve --endless` alone. There, `KeepsMainPromise` holds, a like promise over the
-            history.""", [
+            stays its beginning for ever. Handing out its history, as `serve --endless` does, is no event. Not shown: a `run` or a
+            server has one lock.""", [
                 Block("mlt_work_desk/src/shared.rt", "Shared:state"),
-                Block("mlt_work_desk/src/locked_state.rt", "LockedState:manager,writer,logged,played"),
-                Block("mlt_work_desk/src/holds.rt", "LockedState.act():acts,seen LockedState.compare():first"),
+                Block("mlt_work_desk/src/locked_state.rt", "LockedState:manager,writer,logged,made_by"),
+                Block("mlt_work_desk/src/holds.rt", "LockedState.act():course,acts,seen LockedState.compare():first"),
                 Block("mlt_work_desk/specs/Prefixes.antt", "StartsWith HasBegunWith"),
             ]),
     Section("What the manager has executed",
             "", [
-                Block("mlt_work_desk/specs/Playing.antt", "ArePlayed IsPlayed HasPlayed:count,course,tells,keeps,items"),
-                Block("mlt_manager/specs/Tolds.antt", "AreToldBy AddsItems CalledOps called_after"),
+                Block("mlt_work_desk/specs/Playing.antt", "HaveMade IsMade"),
+                Block("mlt_manager/specs/Courses.antt", "TellsAll AddsItems"),
                 Block("mlt_trace/src/item.rt", "TraceItem"),
                 Block("mlt_manager/src/manager.rt", "Manager.passes_the_checker()"),
                 Block("mlt_manager/specs/Promises.antt", "PassesTheChecker:base,accepted"),
+                Block("mlt_trace_check/src/trace_check.rt", "check():accepted,only_accepted"),
             ]),
     Section("What run and serve_on return",
             """Either call may return an error instead. A `run` that refused every script would meet its contract, as would a
             `serve_on` that accepted nobody: no contract knows what comes over a socket, or says that this manager is the one of
             the sessions. [Another one](../crates/mlt_serve_session/src/sessions.rt) says that a session writes what its outcomes
             have. Of `serve --endless` [less is proved](THEOREM.md#what-no-contract-says).""", [
-                Block("mlt_work/src/running.rt", "run():ran,history,played"),
-                Block("mlt_work/specs/Runs.antt", "HasRunAll:outcomes,agrees AreRunWith"),
-                Block("mlt_serve/src/serving.rt", "serve_on():history,played,outcomes,clients,order"),
+                Block("mlt_work/src/running.rt", "run():ran,history,made_by"),
+                Block("mlt_work/specs/Runs.antt", "HasRunAll:outcomes,events,agrees,base AreRunWith"),
+                Block("mlt_serve/src/serving.rt", "serve_on():history,made_by,outcomes,clients,order"),
                 Block("mlt_manager/src/manager.rt", "Manager.history():some,none"),
                 Block("mlt_script_serial/src/outcome.rt", "Outcome End"),
                 Block("mlt_work/specs/Places.antt", "AreAllOutcomes"),
@@ -201,18 +196,19 @@ PARTS: list[tuple[str, list[Section]]] = [("Part one: a list of events", ONE), (
 # Names of the library and the kit that stand in what is shown. `◌` takes the place of what stands around a name. Those without a
 # meaning are usual, and have no line.
 LIBRARY: list[tuple[str, str]] = [
-    ("◌+◌ ◌*◌ ◌^◌ ◌%◌ min ◌<◌ ◌≤◌ Bool true false ◌==◌ if◌then◌else◌ Option None Some Result Vec Mutex Ordering", ""),
+    ("◌+◌ ◌*◌ ◌^◌ ◌%◌ min ◌<◌ ◌≤◌ Bool true false ◌==◌ if◌then◌else◌ Option None Some Result Vec Mutex Ordering Global", ""),
     ("ℕ ◌-◌", "natural numbers; the difference, or 0 if that is negative"),
     ("◌≡◌ ◌≢◌ ◌↔◌", "the same, not the same, if and only if"),
     ("is_some unwrap_or option_copied", "there is a value; it, or else the second argument; what is lent"),
     ("IfOk IfSome IfNone", "`IfOk r P`: if `r` is `Ok x`, then `P x`; the others likewise"),
-    ("IsOkUnless", "an error is just this"),
+    ("MatchResult IsOkUnless", "`MatchResult r P Q`: `P x` of `Ok x`, `Q e` of `Err e`; an error is just this"),
+    ("Read", "a reader; `R.remaining` is what is left to read, if that is known"),
     ("List [] ◌∷◌ ◌++◌", "finite lists; the empty one; an item, or a list, before a list"),
     ("Contains All", "it is an item; the statement holds of each"),
     ("length count_by replicate map", "how many items; how many with a test; so many times an item; a function of each"),
     ("slice_index_or", "the item at a place, from 0, or else the last argument"),
     ("nat_cmp ordering_then", "how numbers compare; the second where the first is equal"),
-    ("map.FinMap set.FinSet", "finite maps, from keys that the first argument compares; sets. With the same values they are one"),
+    ("map.FinMap", "finite maps, from keys that the first argument compares. With the same values they are one"),
     ("map.empty map.len map.get map.retain_keys", "no keys; how many; the value at a key, if any; what a test of keys leaves"),
 ]
 
@@ -221,7 +217,6 @@ NOT_SHOWN_SAID = """The sentences read no more by these names than this, and by 
 NOT_SHOWN: dict[str, str] = {
     "TellsNumber": "the reply is a number; [[TellsSize]] says which",
     "SLOTS": "8",
-    "buckets_of": "the bucket there, or one without slots",
     "MadeWith": "a type that a caller picks, with a ledger",
     "Pseudo": "a type that a caller picks; `P.bits_of` are functions from keys to hashes",
     "IsScriptEnd": "a refusal is for memory, room, a limit, or giving up",
