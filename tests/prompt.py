@@ -59,6 +59,8 @@ PIPED = {
         "",
     ),
     "prompt-of-an-exit": ("begin|exit|up 7 1", "begun 1|transaction 1 is rolled back", ""),
+    "prompt-of-operations-alone": ("up 7 1|begin|up 7 2|abort|read 7", "done|begun 2|done|aborted|is 1", ""),
+    "prompt-of-an-operation-alone-that-cannot-be-done": ("withdraw 1 5|open 1", "missing: there is no such account|opened", ""),
     "prompt-of-a-backslash-q": ("begin|\\q|up 7 1", "begun 1|transaction 1 is rolled back", ""),
     "prompt-of-an-input-that-ends-in-a-transaction": (
         "begin|up 7 1",
@@ -74,14 +76,14 @@ PIPED = {
     "prompt-ends-at-an-error": (
         "begin|begin|commit",
         "begun 1",
-        "error 5 Running: a transaction is open already|standard input, line 2: begin"
+        "error 5 Running: a transaction is open already on this connection: end it first, since transactions don't nest"
+        "|standard input, line 2: begin"
         "|transaction 1 was open at the end, and is rolled back",
     ),
 }
 
 # A line that fails where it stands alone, and what is said of it.
 FAILS = {
-    "prompt-of-an-operation-alone": ("up 7 1", "error 3 NoSuchTx: no transaction is open"),
     "prompt-of-a-commit-alone": ("commit", "no transaction is open: `begin` begins one"),
     "prompt-of-an-abort-alone": ("abort", "no transaction is open: `begin` begins one"),
     "prompt-of-words-behind-a-line": ("begin 1", "nothing stands behind `begin`; nothing was sent"),
@@ -136,12 +138,12 @@ def help_of_the_prompt(mltx: Program) -> None:
     for usage in (*calls, "begin", "source FILE", ":status", ":waits", ":watch", "\\timing", "quit"):
         holds(re.search(rf"(?m)^{re.escape(usage)} ", out), f"{usage} is listed in {out}")
     deposit = (
-        "deposit ACCOUNT AMOUNT|    asks for so much more in the account"
+        "deposit ACCOUNT AMOUNT|    puts AMOUNT into the account"
         "|    ACCOUNT is 0 to 4294967295, AMOUNT is 0 to 18446744073709551615"
         "|    -> done|    -> over: the balance would be above 10^18|    -> missing: there is no such account"
     )
     holds(lines(deposit) in out, f"the help of deposit in {out}")
-    holds(lines("read COUNTER|    asks for the counter's value") in out, f"the help of read in {out}")
+    holds(lines("read COUNTER|    tells the value of the counter") in out, f"the help of read in {out}")
     same(ran.status, 1, "the status")
     same(ran.err, b"help: there is no line nothing\nstandard input, line 5: help nothing\n", "what is said")
 
@@ -427,25 +429,27 @@ def prompt_at_a_terminal(mltx: Program) -> None:
             it.until("deposit \ndeposit ACCOUNT AMOUNT\nmltx (committed 1)> deposit ")
             it.ask("7", "it is `deposit ACCOUNT AMOUNT`; nothing was sent\nmltx (committed 1)> ")
             it.ask("\\ti\t", "timing is on\nmltx (committed 1)> ")
-            shown = it.ask("read 7", " ms\nmltx (committed 1)> ")
-            holds(re.fullmatch(r"read 7\nerror 3 NoSuchTx.*\n\d+\.\d ms\n.*> ", shown), f"the time: {shown!r}")
-            it.ask("\\timing", "timing is off\nmltx (committed 1)> ")
-            it.ask("begin", "begun 2\nmltx [2]> ")
+            shown = it.ask("read 7", " ms\nmltx (committed 2)> ")
+            holds(re.fullmatch(r"read 7\nis 1\n\d+\.\d ms\n.*> ", shown), f"the time: {shown!r}")
+            it.ask("close 1", "missing: there is no such account\n")
+            it.until("mltx (aborted)> ")
+            it.ask("\\timing", "timing is off\nmltx (aborted)> ")
+            it.ask("begin", "begun 4\nmltx [4]> ")
             it.type("half a line")
             it.until("half a line")
             it.interrupt()
-            it.until("mltx [2]> ")
+            it.until("mltx [4]> ")
             it.ask("abort", "aborted\nmltx (aborted)> ")
             it.ask("help dep\t", "deposit ACCOUNT AMOUNT\n")
             it.ask(":wai\t", "the operator's address is not known")
             it.until("mltx (aborted)> ")
             it.type("\x10\x10\x10\x10\n")
-            it.until("begun 3\nmltx [3]> ")
+            it.until("begun 5\nmltx [5]> ")
             it.type("\x04")
-            it.until("transaction 3 is rolled back")
+            it.until("transaction 5 is rolled back")
             same(it.process.wait(PATIENCE), 0, "the status")
         expect(server.end(), out="served 2\n")
-    expect(mltx.check(trace), out=lines("serial 1|counter 7 1"), what="the check of the trace")
+    expect(mltx.check(trace), out=lines("serial 1|serial 2|counter 7 1"), what="the check of the trace")
     kept = (mltx.folder / "history").read_text().splitlines()
     same(kept[:3], ["begin", "withdraw 1 5", "foo"], "the history")
 

@@ -3,6 +3,7 @@
     mltx shell [HOST:PORT] [--admin HOST:PORT] [-c OPERATIONS]
 
 Each line is one of a session, such as `begin`, `deposit 101 50` or `commit`, or a command of the prompt; `help` lists both.
+An operation outside of a transaction is one of its own.
 Those that begin with a colon ask the server's operator, whose address is that of `--admin`, as the server has it.
 Blank lines and lines that begin with `#` are skipped. The prompt says whether a transaction is open, with its number,
 and else how the last one ended. Without a terminal it reads lines from standard input up to the first that fails, and
@@ -131,11 +132,14 @@ class Shell(cmd.Cmd):
     # What lines do.
 
     def ask(self, operation: Operation[Any]) -> None:
-        """Asks for an operation, and says its reply in words."""
-        session = self.tx.session if self.tx else self.client.session()
-        answer = session.ask(operation.line)[0]
-        with session.understood():
-            operation.result(answer)
+        """Asks for an operation, which is a transaction of its own if none is open, and says its reply in words."""
+        if self.tx:
+            answer = self.tx.session.ask(operation.line)[0]
+            with self.tx.session.understood():
+                operation.result(answer)
+        else:
+            (answer,), tx = self.client.run(lambda tx: (replies_of(tx, [operation]), tx))
+            self.end(f"committed {tx.commit_number}" if tx.commit_number else "aborted")
         self.say(in_words(answer))
 
     def do_begin(self, rest: str) -> None:
@@ -178,7 +182,7 @@ class Shell(cmd.Cmd):
 
     def switch_timing(self) -> None:
         """\\timing
-        says behind each further line how long it took, or no longer does"""
+        shows how long each line took, or stops that"""
         self.is_timed = not self.is_timed
         self.say(f"timing is {'on' if self.is_timed else 'off'}")
 
@@ -299,7 +303,7 @@ class Shell(cmd.Cmd):
         """help
         lists what can be asked; `help WORD` says more"""
         if not arg:
-            self.say("\n".join(f"{usage(form):30}{form.asks_for}" for form in FORMS.values()) + "\n")
+            self.say("\n".join(f"{usage(form):30}{form.does}" for form in FORMS.values()) + "\n")
             self.say("\n".join("{:30}{}".format(*command_help(word)) for word in COMMANDS))
         elif arg in FORMS:
             self.say("\n".join(form_help(FORMS[arg])))
@@ -370,11 +374,11 @@ def usage(form: Form[Any]) -> str:
 
 
 def form_help(form: Form[Any]) -> list[str]:
-    """What an operation asks for, what its numbers may be, and its replies."""
+    """What an operation does, what its numbers may be, and its replies."""
     ranges = ", ".join(f"{argument.name.upper()} is 0 to {argument.most}" for argument in form.arguments)
     replies = ["is N, which is the number"] if form.tells_number else []
     replies += [in_words(reply.value) for reply in form.results]
-    return [usage(form), f"    asks for {form.asks_for}", f"    {ranges}", *(f"    -> {reply}" for reply in replies)]
+    return [usage(form), f"    {form.does}", f"    {ranges}", *(f"    -> {reply}" for reply in replies)]
 
 
 def command_help(word: str) -> tuple[str, str]:
@@ -484,8 +488,9 @@ def leave_output() -> None:
         os.dup2(nowhere, stream.fileno())
 
 
-def main() -> int:
-    parser = argparse.ArgumentParser(prog="mltx shell", description="A prompt for a server that `mltx serve` runs.")
+def main(name: str = "mltx-shell") -> int:
+    """Runs the prompt under this name of its command. Answers the status."""
+    parser = argparse.ArgumentParser(prog=name, description="A prompt for a server that `mltx serve` runs.")
     address = "where the server listens, as 127.0.0.1:7000; the environment variable MLTX_ADDR, if this is not given"
     parser.add_argument("address", metavar="HOST:PORT", nargs="?", help=address)
     parser.add_argument("--admin", metavar="HOST:PORT", help="where its operator connects, as the server's own `--admin` says")
@@ -505,4 +510,4 @@ def main() -> int:
 
 
 if __name__ == "__main__":
-    sys.exit(main())
+    sys.exit(main("python3 -m mltx.shell"))
