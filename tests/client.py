@@ -16,23 +16,23 @@ import threading
 import time
 from collections import defaultdict
 from collections.abc import Callable, Iterable
-from concurrent.futures import ThreadPoolExecutor
+from concurrent.futures import Future, ThreadPoolExecutor
 from pathlib import Path
 from typing import Any, TypeVar
 from unittest import mock
 
-from harness import BROKEN, BY_OPERATOR, PATIENCE, ROOT, Program, Server, comes_to_be, cut_for, each, expect, free_address, holds
-from harness import lines, match, same, test
+from harness import BROKEN, BY_OPERATOR, PATIENCE, ROOT, Address, Program, Server, comes_to_be, cut_for, each, expect
+from harness import free_address, holds, lines, match, same, test
 from serving import NO_SESSION
 
 FOLDER = ROOT / "clients/python"
 sys.path.insert(0, str(FOLDER))
 import mltx as client_module  # noqa: E402
-from mltx import core  # noqa: E402
+from mltx import core, errors  # noqa: E402
 from mltx import FORMS, Client, CommitUnknown, ConnectionLost, GaveUp, LogFull, NoRoom, NoSuchClient, NoSuchTx  # noqa: E402
-from mltx import OpenTransaction, Operation, Operator, Refused, Reply, Retries, Running, ScriptFault, ServedSession  # noqa: E402
-from mltx import ServerAway, ServerRestarted, SessionsTaken, TimedOut, Transaction, TransactionOver  # noqa: E402
-from mltx import UnexpectedAnswer, Wait  # noqa: E402
+from mltx import OpenTransaction, Operation, Operator, OutOfMemory, PartlyDone, Refused, Reply, Retries, Running  # noqa: E402
+from mltx import ScriptFault, ServedSession, ServerAway, ServerRestarted, SessionsTaken, TimedOut, Transaction  # noqa: E402
+from mltx import TransactionOver, UnexpectedAnswer, Wait  # noqa: E402
 
 # How long to listen for a line that must not come, in seconds.
 SILENCE = 0.2
@@ -260,6 +260,13 @@ def refusals_are_raised(mltx: Program) -> None:
         same(f"error {error.number} {error.name}", answer)
     for answer in ("", "is", "is x", "done", "missing", "error", "error 14", "error x GaveUp", "HTTP/1.1 400 Bad"):
         raised(UnexpectedAnswer, read.result, answer)
+    # Words of what each says to do.
+    todo = {"OutOfMemory": "try again later", "NoRoom": "remove objects", "NoSuchTx": "begin one", "Running": "end it first"}
+    todo |= {"TooManyOpen": "`--sessions`", "LogFull": "split it", "IdsSpent": "restart the server", "GaveUp": "begin again"}
+    for name, words in todo.items():
+        refusal = errors.refusal(f"error 1 {name}")
+        same(type(refusal).__name__, name, "the kind of the refusal")
+        holds(words in str(refusal), f"{refusal} says to do: {words}")
 
 
 @test
@@ -362,8 +369,8 @@ def pipelines(mltx: Program) -> None:
         with connected(server) as holder, connected(server) as client:
             with client.begin() as tx:
                 same(tx.ask_all([]), [])
-                counts: list[Operation[Any]] = [Operation.read(7)] * 1_024
-                counts[::2] = [Operation.up(7, number) for number in range(512)]
+                # The types of operations that differ fit, which mypy checks here.
+                counts = [operation for number in range(512) for operation in (Operation.up(7, number), Operation.read(7))]
                 sums = [number * (number + 1) // 2 for number in range(512)]
                 same(tx.ask_all(counts)[1::2], sums, "1,024 operations in one pipeline")
                 raised(LogFull, tx.ask_all, [Operation.read(7)] * 5_000)
@@ -400,6 +407,140 @@ def lines_that_wait_for_their_answers(_mltx: Program) -> None:
         same(asked.result(PATIENCE), ["done"] * 300)
         session.close()
         connection.close()
+
+
+# What goes out in one write.
+
+
+class Scripted:
+    """Is a server on one connection: it answers each write in turn. Then it waits for one more, or cuts the connection."""
+
+    def __init__(self, *pieces: tuple[str, str], is_cut: bool = False) -> None:
+        self.listener = socket.create_server(("127.0.0.1", 0))
+        self.address: Address = self.listener.getsockname()
+        self.heard: Future[list[str]] = ThreadPoolExecutor(1).submit(self._serve, pieces, is_cut)
+
+    def _serve(self, pieces: Iterable[tuple[str, str]], is_cut: bool) -> list[str]:
+        heard = []
+        with self.listener, self.listener.accept()[0] as client:
+            client.settimeout(PATIENCE)
+            for _, answers in pieces:
+                heard.append(client.recv(65_536).decode().replace("\n", "|"))
+                client.sendall(lines(answers).encode())
+            heard.append("" if is_cut else client.recv(65_536).decode())
+        return heard
+
+
+# Who runs two transactions at a server, and what that server hears in each write, and answers.
+FIRST = [("begin|", "begun 1"), ("up 7 1|", "done"), ("commit|", "committed 1")]
+ONE_WRITE: dict[str, tuple[Callable[[Client], object], list[tuple[str, str]]]] = {
+    "run": (lambda client: client.run(lambda tx: tx.up(7, 1)), [("begin|up 7 1|", "begun 2|done"), ("commit|", "committed 2")]),
+    "run-of-two-calls": (
+        lambda client: client.run(lambda tx: (tx.up(7, 1), tx.up(8, 1))),
+        [("begin|up 7 1|", "begun 2|done"), ("up 8 1|", "done"), ("commit|", "committed 2")],
+    ),
+    "run-that-takes-the-number": (
+        lambda client: same(client.run(lambda tx: tx.number), 2), [("begin|", "begun 2"), ("commit|", "committed 2")],
+    ),
+    "run-of-nothing": (lambda client: client.run(lambda tx: None), [("begin|", "begun 2"), ("commit|", "committed 2")]),
+    "run-of-an-abort": (lambda client: client.run(lambda tx: tx.abort()), []),
+    "attempts": (lambda client: count_by_attempts(client), [("begin|up 7 1|", "begun 2|done"), ("commit|", "committed 2")]),
+    "begin": (
+        lambda client: count_by_begin(client), [("begin|", "begun 2"), ("up 7 1|", "done"), ("commit|", "committed 2")],
+    ),
+    "run-all-of-one": (
+        lambda client: same(client.run_all([Operation.read(7)]), [5]), [("begin|read 7|commit|", "begun 2|is 5|committed 2")],
+    ),
+    "run-all-of-two": (
+        lambda client: same(client.run_all([Operation.read(7), Operation.has(1, 2)]), [5, False]),
+        [("begin|read 7|has 1 2|", "begun 2|is 5|no"), ("commit|", "committed 2")],
+    ),
+    "run-all-of-two-partly": (
+        lambda client: same(client.run_all([Operation.read(7), Operation.has(1, 2)], partly=True), [5, False]),
+        [("begin|read 7|has 1 2|commit|", "begun 2|is 5|no|committed 2")],
+    ),
+    "run-all-of-none": (lambda client: client.run_all([]), [("begin|", "begun 2"), ("commit|", "committed 2")]),
+    "begin-that-is-refused": (
+        lambda client: raised(OutOfMemory, client.run, lambda tx: tx.up(7, 1)),
+        [("begin|up 7 1|", "error 1 OutOfMemory|error 3 NoSuchTx")],
+    ),
+    "begin-that-another-server-answers": (
+        lambda client: raised(ServerRestarted, client.run, lambda tx: tx.up(7, 1)), [("begin|up 7 1|", "begun 1|done")],
+    ),
+    "run-all-that-is-refused": (
+        lambda client: raised(NoRoom, client.run_all, [Operation.open(7)]),
+        [("begin|open 7|commit|", "begun 2|error 2 NoRoom|committed 2")],
+    ),
+}
+
+
+def count_by_attempts(client: Client) -> None:
+    for attempt in client.attempts():
+        with attempt as tx:
+            tx.up(7, 1)
+
+
+def count_by_begin(client: Client) -> None:
+    with client.begin() as tx:
+        tx.up(7, 1)
+
+
+@each({f"one-write-of-{name}": case for name, case in ONE_WRITE.items()})
+def in_one_write(_mltx: Program, case: tuple[Callable[[Client], object], list[tuple[str, str]]]) -> None:
+    """On a connection that was used before `begin` goes out with the first operations, and so may the commit."""
+    call, second = case
+    server = Scripted(*FIRST, *second)
+    with Client(*server.address, answer_timeout=PATIENCE) as client:
+        client.run(lambda tx: tx.up(7, 1))
+        call(client)
+    same(server.heard.result(PATIENCE), [asked for asked, _ in FIRST + second] + [""], "what the server hears in each write")
+
+
+@test
+def transactions_of_one_write(mltx: Program) -> None:
+    """Where some of its operations are refused the others are committed, which is told; where all are, it is run again."""
+    trace, both = mltx.folder / "trace", [Operation.up(8, 1), Operation.read(7)]
+    with mltx.serve("--tries", 1, "--trace", trace, limit=2) as server:
+        with connected(server) as holder, connected(server, retries=PATIENT) as client:
+            mixed = [Operation.up(8, 1), Operation.size(1), Operation.balance(1)]
+            same(client.run_all(mixed, partly=True), [Reply.DONE, 0, None])
+            with holder.begin() as held:
+                held.up(7, 1)
+                error = raised(PartlyDone, lambda: client.run_all(both, partly=True))
+                same([str(it)[:16] for it in error.outcomes], ["done", "error 14 GaveUp:"], "the outcomes")
+                same((error.commit_number, str(error)), (2, "commit 2 lacks 1 of 2 operations, which the server refused"))
+                raised(GaveUp, lambda: client.run_all(both, retries=Retries(attempts=2)))
+                with ThreadPoolExecutor(1) as threads:
+                    reading = threads.submit(lambda: client.run_all([Operation.read(7)]))
+                    time.sleep(SILENCE)
+                    held.commit()
+                    same(reading.result(PATIENCE), [1], "what it reads once it is free")
+            same(client.run_all([Operation.up(9, 1)] * 1_024, partly=True), [Reply.DONE] * 1_024, "more than go out at once")
+            raised(LogFull, lambda: client.run_all([Operation.up(9, 1)] * 1_025))
+            raised(TypeError, lambda: client.run_all(["up 9 1"]))  # type: ignore[arg-type]
+            same(client.run_all([Operation.read(8), Operation.read(9)]), [2, 1_024], "the counters")
+        expect(server.end(), out="served 2\n")
+    checked = mltx.accepted(trace).splitlines()
+    same(checked[-3:], ["counter 7 1", "counter 8 2", "counter 9 1024"], "the base")
+
+
+# What the server answers to a single write before the connection ends, and what is said then of the transaction.
+CUT_WRITES = {"one-write-that-is-cut": ("", "the transaction"), "one-write-that-is-cut-later": ("begun 2|done", "transaction 2")}
+
+
+@each(CUT_WRITES)
+def one_write_that_is_cut(_mltx: Program, case: tuple[str, str]) -> None:
+    """Its commit is out, so it is not known of. Without the commit nothing is done, and it may be run again."""
+    answers, said = case
+    server = Scripted(*FIRST, ("begin|up 7 1|commit|", answers), is_cut=True)
+    with Client(*server.address) as client:
+        client.run(lambda tx: tx.up(7, 1))
+        error = raised(CommitUnknown, client.run_all, [Operation.up(7, 1)])
+        same(str(error), f"the connection ended, and it is not known whether {said} was committed")
+    server = Scripted(*FIRST, ("begin|up 7 1|", answers), is_cut=True)
+    with Client(*server.address, retries=Retries(attempts=1)) as client:
+        client.run(lambda tx: tx.up(7, 1))
+        raised(ConnectionLost, client.run, lambda tx: (tx.up(7, 1), tx.up(7, 1)))
 
 
 class Relay:
@@ -602,6 +743,88 @@ def answer_that_does_not_come_in_time(mltx: Program) -> None:
         expect(ended, out="served 3\n", notes=ended.notes)
         holds(set(ended.notes) <= {cut_for(2, BROKEN)}, f"{ended.notes}")
     expect(mltx.check(trace), out=lines("serial 3|serial 1|counter 7 1|counter 9 1"), what="the check of the trace")
+
+
+def dribbles(listener: socket.socket) -> None:
+    """Answers the first line by a byte each tenth of a second, for some seconds."""
+    with listener, listener.accept()[0] as client, contextlib.suppress(OSError):
+        client.recv(1_000)
+        for byte in b"begun 1" * 5:
+            client.sendall(bytes([byte]))
+            time.sleep(0.1)
+
+
+@test(seconds=1)
+def answer_that_comes_byte_by_byte(_mltx: Program) -> None:
+    """A line has one limit of time, however it comes. So has what is written, which a server does not read here."""
+    listener = socket.create_server(("127.0.0.1", 0))
+    threading.Thread(target=dribbles, args=(listener,), daemon=True).start()
+    began = time.monotonic()
+    with Client(*listener.getsockname(), answer_timeout=0.5) as client:
+        raised(SessionsTaken, client.begin)
+        took = time.monotonic() - began
+        holds(0.5 <= took < 2, f"it took {took} seconds")
+    with socket.create_server(("127.0.0.1", 0)) as listener:
+        session, began = client_module.Session("127.0.0.1", listener.getsockname()[1], answer_timeout=0.5), time.monotonic()
+        raised(SessionsTaken, session.send, *["x" * 100] * 160_000)
+        took = time.monotonic() - began
+        holds(0.5 <= took < 5, f"it took {took} seconds")
+
+
+@each({"look-without-a-limit-of-time": None, "look-with-a-limit-of-time": PATIENCE})
+def looks_take_no_time(mltx: Program, answer_timeout: float | None) -> None:
+    """Whether a connection has ended is seen without a wait, and an answer that has come stays to be read."""
+    with mltx.serve() as server, connected(server, answer_timeout=answer_timeout) as client:
+        session, began = client.session(), time.monotonic()
+        same([session.has_ended() for _ in range(100)], [False] * 100)
+        session.send("begin", "up 7 1")
+        same((session.has_ended(), session.receive()), (False, "begun 1"))
+        time.sleep(SILENCE)
+        same((session.has_ended(), session.receive()), (False, "done"))
+        holds(time.monotonic() - began < PATIENCE / 4, "it waits for an answer")
+        server.kill()
+        comes_to_be(session.has_ended, "the end is seen")
+
+
+@test
+def connections_are_probed(mltx: Program) -> None:
+    """A host that vanishes is found within two minutes, as no answer has to come."""
+    with mltx.serve() as server, connected(server) as client:
+        wire = client.session()._wire
+        assert isinstance(wire, client_module.client.SocketWire)
+        probed = wire._socket
+        same(probed.getsockopt(socket.SOL_SOCKET, socket.SO_KEEPALIVE), 1)
+        names = socket.TCP_KEEPIDLE, socket.TCP_KEEPINTVL, socket.TCP_KEEPCNT
+        found = [probed.getsockopt(socket.IPPROTO_TCP, name) for name in names]
+        holds(found[0] + found[1] * found[2] <= 120, f"the times {found}")
+
+
+# What is wrong in a program, what is raised, and words of that which say what to do.
+MISTAKES: dict[str, tuple[Callable[[Client], object], type[Exception], str]] = {
+    "async-function": (lambda client: client.run(waits_for_nothing), TypeError, "use mltx.aio"),
+    "transaction-in-a-transaction": (lambda client: client.run(lambda tx: client.begin()), Running, "transactions don't nest"),
+    "text-for-an-operation": (
+        lambda client: client.run(lambda tx: tx.ask_all(["up 7 1"])),  # type: ignore[arg-type]
+        *(TypeError, "as Operation.up(7, 1)"),
+    ),
+    "operation-of-a-client": (lambda client: client.up(7, 1), AttributeError, "client.run("),  # type: ignore[attr-defined]
+    "number-for-an-address": (lambda _: Client(7000), TypeError, "HOST:PORT"),  # type: ignore[arg-type]
+    "too-many-operations": (lambda client: client.run_all([Operation.read(7)] * 1_025), LogFull, "split it"),
+}
+
+
+async def waits_for_nothing(tx: Transaction) -> None:
+    tx.up(7, 1)
+
+
+@each({f"mistake-of-{name}": case for name, case in MISTAKES.items()})
+def mistakes(mltx: Program, case: tuple[Callable[[Client], object], type[Exception], str]) -> None:
+    """The exception says what to do, and nothing is done."""
+    call, kind, said = case
+    with mltx.serve() as server, connected(server) as client:
+        error = raised(kind, call, client)
+        holds(said in str(error), f"{error} has {said}")
+        same(client.run(lambda tx: tx.read(7)), 0, "the counter")
 
 
 @test

@@ -4,6 +4,7 @@ from __future__ import annotations
 
 import asyncio
 import contextlib
+import functools
 import gc
 import inspect
 import itertools
@@ -12,6 +13,7 @@ import os
 import random
 import re
 import select
+import signal
 import socket
 import threading
 import time
@@ -25,12 +27,13 @@ from pathlib import Path
 from typing import Any, TypeVar
 from unittest import mock
 
-from client import BREAKS, PATIENT, RESULTS, Relay, connected, raised
+from client import BREAKS, FIRST, PATIENT, RESULTS, Relay, Scripted, connected, dribbles, raised
 from harness import PATIENCE, Address, Program, comes_to_be, each, expect, free_address, holds, lines, same, test
 
 import mltx as client_module
-from mltx import Client, CommitUnknown, ConnectionLost, GaveUp, LogFull, MltxError, Operation, Operator, Pool, PoolTimeout, Reply
-from mltx import Retries, Running, ServerAway, ServerRestarted, TimedOut, Transaction, UnexpectedAnswer, WrongThread, aio
+from mltx import Client, CommitUnknown, ConnectionLost, GaveUp, LogFull, MltxError, Nested, Operation, Operator, Pool, PoolTimeout
+from mltx import Reply, Retries, Running, ServerAway, ServerRestarted, SessionsTaken, TimedOut, Transaction, TransactionOver
+from mltx import UnexpectedAnswer, WrongThread, aio
 from mltx.core import Numbers
 
 Result = TypeVar("Result")
@@ -245,7 +248,7 @@ def attempts_end(mltx: Program) -> None:
         client.close()
         ended = server.end()
         expect(ended, out="served 2\n", notes=ended.notes)
-    expect(mltx.check(trace), out=lines("serial 1|serial 5|counter 1 1|counter 4 1"), what="the check of the trace")
+    expect(mltx.check(trace), out=lines("serial 1|serial 4|counter 1 1|counter 4 1"), what="the check of the trace")
 
 
 def server_cuts(tx: Transaction) -> None:
@@ -383,6 +386,229 @@ def pool_replaces_what_broke(mltx: Program) -> None:
 
 
 @test
+def transaction_inside_another_one(mltx: Program) -> None:
+    """A thread that has one open in a pool gets no other one by `run`, which could wait for the first; another thread does."""
+    with mltx.serve("--endless", limit=None) as server, Pool(*server.address, size=3) as pool, pool.client() as one:
+        connected(server).close()
+        one.run(lambda tx: tx.up(6, 1))
+        same(pool.run_all([Operation.up(7, 1)]), [Reply.DONE], "beside a client without a transaction")
+        calls: list[Callable[[], object]] = [lambda: pool.run(lambda tx: tx.up(7, 1)), lambda: pool.run_all([Operation.up(7, 1)])]
+        for call in calls:
+            raised(Nested, pool.run, lambda tx, call=call: (tx.up(7, 1), call()))
+            raised(Nested, one.run, lambda tx, call=call: call())
+            with pool.client() as other, one.begin() as tx:
+                tx.up(8, 1)
+                same(other.run(lambda tx: tx.up(7, 1)), Reply.DONE, "a client that was taken before")
+                in_a_thread(call)
+        same(pool.run(lambda tx: (tx.read(7), tx.read(8))), (5, 2), "the counters")
+
+
+# Forks
+
+
+def in_a_fork(call: Callable[[], object]) -> str:
+    """What a call comes to in a forked process, of which nothing else is left."""
+    read, write = os.pipe()
+    child = os.fork()
+    if not child:
+        said = "nothing"
+        try:
+            signal.alarm(20)
+            said = repr(call())
+        except BaseException as error:
+            said = repr(error)
+        finally:
+            os.write(write, said.encode())
+            os._exit(0)
+    os.close(write)
+    with open(read, "rb") as told:
+        said = told.read().decode()
+    os.waitpid(child, 0)
+    return said or "it hangs"
+
+
+@test(seconds=2)
+def pool_in_forked_processes(mltx: Program) -> None:
+    """Each connects for itself, also where threads were using the pool; the parent goes on, and no answer is another's."""
+    with mltx.serve("--endless", limit=None) as server, Pool(*server.address, size=3, timeout=5) as pool:
+        connected(server).close()
+        stop = threading.Event()
+
+        def count(counter: int) -> int:
+            times = 0
+            while not stop.is_set() and times < 20_000:
+                times += 1
+                same(pool.run(lambda tx: (tx.up(counter, 1), tx.read(counter))), (Reply.DONE, times), "what the counter is")
+            return times
+
+        def count_in_child(counter: int) -> int:
+            for times in range(1, 101):
+                same(pool.run(lambda tx: (tx.up(counter, 1), tx.read(counter))), (Reply.DONE, times), "what the counter is")
+            with pool.client() as one, pool.client() as two, pool.client() as three:
+                return len({one, two, three})
+
+        with ThreadPoolExecutor(2) as threads:
+            counting = [threads.submit(count, counter) for counter in (1, 2)]
+            comes_to_be(lambda: len(pool._users) == 2, "both use the pool")
+            told = [in_a_fork(functools.partial(count_in_child, counter)) for counter in range(10, 16)]
+            same(told, ["3"] * 6, "the clients that a forked process may use")
+            stop.set()
+            times = [it.result(PATIENCE) for it in counting]
+        same(pool.run(lambda tx: [tx.read(1), tx.read(2), tx.read(10), tx.read(15)]), [*times, 100, 100], "the counters")
+
+
+@test
+def transaction_over_a_fork(mltx: Program) -> None:
+    """It stays the parent's, whose connection the child neither uses nor ends. The child's own client connects anew."""
+    with mltx.serve("--endless", limit=None) as server, connected(server) as client, connected(server) as other:
+        holds(client.session() and other.session(), "both have connected")
+
+        def use() -> object:
+            calls: list[Callable[[], object]] = [lambda: tx.up(7, 1), tx.commit, tx.abort]
+            for call in calls:
+                raised(TransactionOver, call)
+            raised(ConnectionLost, tx.session.ask, "up 7 1")
+            other.close()
+            return client.run(lambda tx: tx.up(8, 1)), in_a_thread(lambda: other.run(lambda tx: tx.up(8, 1)))
+
+        with client.begin() as tx:
+            tx.up(7, 1)
+            same(in_a_fork(use), repr((Reply.DONE, Reply.DONE)), "the child")
+            same(tx.read(7), 1, "what the parent reads then")
+        same(other.run(lambda tx: (tx.read(7), tx.read(8))), (1, 2), "the counters")
+
+
+@test
+def fork_under_a_lock(mltx: Program) -> None:
+    """A lock that another thread holds as the process forks is not taken over."""
+    with mltx.serve("--endless", limit=None) as server, Pool(*server.address, size=1) as pool:
+        connected(server).close()
+        pool.run(lambda tx: tx.up(7, 1))
+        client = pool._clients[0]
+        with pool._lock, client._turns._lock, client._numbers._lock, mock.patch.object(client._turns, "_calls", 1):
+            with mock.patch.object(client._turns, "_inside", threading.Thread()):
+                same(in_a_fork(lambda: pool.run(lambda tx: tx.read(7))), "1", "what the child reads")
+
+
+@test
+def asyncio_over_a_fork(mltx: Program) -> None:
+    """The child has a loop of its own, and the parent's goes on to listen to its connections."""
+
+    async def count(pool: aio.Pool) -> int:
+        return await pool.run(lambda tx: counted(tx))
+
+    async def counted(tx: aio.Transaction) -> int:
+        await tx.up(7, 1)
+        return await tx.read(7)
+
+    async def use() -> None:
+        async with aio.Pool(*server.address, size=2) as pool:
+            same(await count(pool), 1)
+            same(in_a_fork(lambda: asyncio.run(count(pool))), "2", "what the child counts")
+            same(await asyncio.wait_for(count(pool), PATIENCE), 3, "what the parent counts then")
+
+    with mltx.serve("--endless", limit=None) as server:
+        connected(server).close()
+        asyncio.run(use())
+
+
+@test
+def asyncio_of_two_loops(mltx: Program) -> None:
+    """A pool and a client of a loop that has ended connect anew in the next one, and the server hears of the end of the first."""
+    with mltx.serve("--endless", limit=None, admin=free_address()) as server:
+        connected(server).close()
+        pool, client = aio.Pool(*server.address, size=2), aio.Client(*server.address)
+        for count in (1, 3, 5):
+            same(asyncio.run(pool.run(lambda tx: tx.up(7, 1))), Reply.DONE)
+            same(asyncio.run(client.run_all([Operation.up(7, 1), Operation.read(7)])), [Reply.DONE, count + 1], "the counter")
+        comes_to_be(lambda: len(Operator(*server.admin).sessions()) == 2, "the connections of ended loops have ended")
+        left: list[aio.Transaction] = []
+
+        async def leave() -> None:
+            left.append(await client.begin())
+
+        async def go_on() -> None:
+            await left[0].up(7, 1)
+
+        asyncio.run(leave())
+        raised(ConnectionLost, asyncio.run, go_on())
+
+
+# Restarts
+
+
+@each({"restart-is-seen-by-a-client": Client, "restart-is-seen-by-a-pool": Pool})
+def restart_is_seen_by_an_idle_client(mltx: Program, kind: type[Client] | type[Pool]) -> None:
+    """A server that has begun more transactions than the client had seen of the last one is known by its number."""
+    for before in (1, 30):
+        restart_is_seen_after(mltx, kind, before)
+
+
+def restart_is_seen_after(mltx: Program, kind: type[Client] | type[Pool], before: int) -> None:
+    """It is raised once, if the client had seen so many transactions before."""
+    admin = free_address()
+    options: dict[str, Any] = {"admin": "%s:%d" % admin, "retries": PATIENT}
+    with mltx.serve("--endless", limit=None, admin=admin) as server, kind(*server.address, **options) as idle:
+        for _ in range(before):
+            idle.run(lambda tx: tx.up(7, 1))
+        server.kill()
+        with mltx.serve("--endless", limit=None, address=server.address, admin=admin) as again, connected(again) as busy:
+            for _ in range(20):
+                busy.run(lambda tx: tx.up(8, 1))
+            raised(ServerRestarted, idle.run, lambda tx: tx.read(7))
+            same(idle.run(lambda tx: (tx.read(7), tx.number)), (0, 21), "what it reads then")
+            busy.run(lambda tx: tx.up(8, 1))
+            same(idle.run(lambda tx: tx.number), 23, "the next one, of a number that the new server gave out")
+
+
+@test
+def restart_is_seen_by_asyncio(mltx: Program) -> None:
+    admin = free_address()
+
+    async def use() -> None:
+        async with aio.Client(*server.address, admin="%s:%d" % admin, retries=PATIENT) as idle:
+            await idle.run_all([Operation.up(7, 1)])
+            server.kill()
+            with mltx.serve("--endless", limit=None, address=server.address, admin=admin) as again, connected(again) as busy:
+                for _ in range(20):
+                    busy.run(lambda tx: tx.up(8, 1))
+                with contextlib.suppress(ServerRestarted):
+                    await idle.run_all([Operation.up(7, 1)])
+                    raise AssertionError("no ServerRestarted is raised")
+                same(await idle.run_all([Operation.read(7)]), [0])
+
+    with mltx.serve("--endless", limit=None, admin=admin) as server:
+        connected(server).close()
+        asyncio.run(use())
+
+
+@each({"restart-that-is-expected": False, "restart-that-is-expected-and-seen-by-number": True})
+def restart_that_is_expected(mltx: Program, has_admin: bool) -> None:
+    """With `--data` nothing is lost, so a restart is no reason to fail."""
+    admin, data = free_address(), mltx.folder / "data"
+    options: dict[str, Any] = {"admin": "%s:%d" % admin if has_admin else None, "expects_restart": True, "retries": PATIENT}
+    with mltx.serve("--endless", "--data", data, limit=None, admin=admin) as server, Pool(*server.address, **options) as pool:
+        connected(server).close()
+        for count in range(1, 6):
+            same(pool.run(lambda tx: (tx.up(7, 1), tx.read(7))), (Reply.DONE, count))
+        Operator(*admin).stop()
+        same(server.end(is_all_noted=False).status, 0, "the first server")
+        heard = Heard()
+        with logging_to(heard), mltx.serve("--endless", "--data", data, limit=None, address=server.address, admin=admin):
+            same(pool.run(lambda tx: (tx.up(7, 1), tx.read(7), tx.number < 6)), (Reply.DONE, 6, True), "what it counts on")
+            restarts = [it for it in heard.logged if it.startswith("INFO the server was restarted")]
+            same(len(restarts), 1, "the restarts that are logged")
+
+
+@test
+def operator_that_is_not_there_is_tried_again(mltx: Program) -> None:
+    """A client that has to know its server doesn't use one of which it can't."""
+    with mltx.serve(limit=1) as server:
+        admin = "%s:%d" % free_address()
+        raised(ServerAway, Client(*server.address, admin=admin, retries=FEW).run, lambda tx: 1 // 0)
+
+
+@test
 def pool_of_a_server_that_was_restarted(mltx: Program) -> None:
     """One of its clients raises, the others go on with the new server."""
     with mltx.serve("--endless", limit=None) as server, Pool(*server.address, size=3) as pool:
@@ -431,7 +657,7 @@ def shape(kind: type) -> dict[str, list[str]]:
 
 @test
 def names_of_asyncio(_mltx: Program) -> None:
-    for name in ("Client", "Transaction", "Pool", "Operator", "Attempt"):
+    for name in ("Client", "Transaction", "Pool", "Attempt"):
         same(shape(getattr(aio, name)), shape(getattr(client_module, name)), name)
     options = inspect.signature(Client).parameters
     for connect in (client_module.connect, aio.connect):
@@ -521,12 +747,14 @@ def asyncio_of_many_tasks(mltx: Program) -> None:
                 waiting.cancel()
                 await asyncio.wait([waiting])
                 holds(waiting.cancelled(), "the call is cancelled")
-                pool.timeout = 0.05
-                try:
-                    await pool.run(lambda tx: tx.read(8))
-                    raise AssertionError("no PoolTimeout is raised")
-                except PoolTimeout:
-                    pool.timeout = PATIENCE
+                for timeout, kind in ((0.05, PoolTimeout), (PATIENCE, Nested)):
+                    pool.timeout = timeout
+                    runs = pool.run(lambda tx: tx.read(8))
+                    try:
+                        await (runs if kind is Nested else asyncio.ensure_future(runs))
+                        raise AssertionError(f"no {kind} is raised")
+                    except kind:
+                        pass
                 waiting = asyncio.ensure_future(pool.run(lambda tx: tx.read(7)))
                 await asyncio.sleep(0.05)
                 waiting.cancel()
@@ -542,7 +770,7 @@ def asyncio_of_many_tasks(mltx: Program) -> None:
                     raise AssertionError("no TimedOut is raised")
                 except TimedOut:
                     await held.abort()
-        numbers = await aio.Operator(*server.admin).status()
+        numbers = await asyncio.to_thread(Operator(*server.admin).status)
         same(numbers["commits"], 40 + 2 + 1 + 9, "the commits that an operator sees")
 
     async def one_more(tx: aio.Transaction) -> int:
@@ -581,6 +809,40 @@ def asyncio_hears_of_the_end_before_a_commit(mltx: Program) -> None:
         comes_to_be(lambda: not Operator(*server.admin).sessions(), "the first session has ended")
         asyncio.run(run())
     same(tries, [1, 2], "the tries")
+
+
+@test
+def asyncio_sends_begin_with_the_first_operations(_mltx: Program) -> None:
+    """As `mltx` does, and a commit with a transaction that is known beforehand. A dribbling server is found in time."""
+    second = [("begin|up 7 1|", "begun 2|done"), ("commit|", "committed 2"), ("begin|read 7|commit|", "begun 3|is 5|committed 3")]
+    server = Scripted(*FIRST, *second)
+
+    async def run() -> None:
+        async with aio.Client(*server.address) as client:
+            for number in (1, 2):
+                same(await client.run(lambda tx: counted(tx, number)), Reply.DONE)
+            same(await client.run_all([Operation.read(7)]), [5])
+            probed = client._last._wire._writer.get_extra_info("socket")  # type: ignore[union-attr]
+            same(probed.getsockopt(socket.SOL_SOCKET, socket.SO_KEEPALIVE), 1, "whether it is probed")
+
+    async def counted(tx: aio.Transaction, number: int) -> Reply:
+        same(tx.number, 1 if number == 1 else 0, "the number before the first answer")
+        reply = await tx.up(7, 1)
+        same(tx.number, number, "the number behind it")
+        return reply
+
+    asyncio.run(run())
+    same(server.heard.result(PATIENCE), [asked for asked, _ in FIRST + second] + [""], "what the server hears in each write")
+    listener = socket.create_server(("127.0.0.1", 0))
+    threading.Thread(target=dribbles, args=(listener,), daemon=True).start()
+
+    async def meet() -> None:
+        async with aio.Client("127.0.0.1", listener.getsockname()[1], answer_timeout=0.5, retries=Retries(attempts=1)) as client:
+            await client.run_all([])
+
+    began = time.monotonic()
+    raised(SessionsTaken, asyncio.run, meet())
+    holds(time.monotonic() - began < 2, "it waits for each byte")
 
 
 @test

@@ -17,17 +17,24 @@ closes the connection, so the server rolls the transaction back; a commit that w
 from __future__ import annotations
 
 import asyncio
+import inspect
+import os
 import socket
-from collections.abc import AsyncIterator, Awaitable, Callable, Iterable, Iterator
+from collections.abc import AsyncIterator, Awaitable, Callable, Coroutine, Iterable, Iterator
 from contextlib import asynccontextmanager, suppress
-from typing import Any, Optional
+from typing import TYPE_CHECKING, Any, Optional
 
-from . import admin
-from .core import AttemptCore, ClientCore, OnRetry, PoolCore, Retries, SessionCore, TransactionCore, Turns, until_last
+from .admin import Operator
+from .core import AttemptCore, ClientCore, PoolCore, Retries, SessionCore, TransactionCore, Turns, named_as, set_up, until_last
 from .errors import ServerAway, UnexpectedAnswer
-from .operations import Operation, Reply, Result
+from .operations import Operation, Result
 
-__all__ = ["connect", "Client", "Pool", "Session", "Transaction", "Attempt", "Operator"]
+if TYPE_CHECKING:
+    from typing_extensions import Concatenate, ParamSpec
+
+    Arguments = ParamSpec("Arguments")
+
+__all__ = ["connect", "Client", "Pool", "Session", "Transaction", "Attempt"]
 
 
 async def _within(seconds: Optional[float], waited: Awaitable[Result]) -> Result:
@@ -43,8 +50,12 @@ class StreamWire:
 
     def __init__(self, reader: asyncio.StreamReader, writer: asyncio.StreamWriter) -> None:
         self._reader, self._writer = reader, writer
+        self._loop = asyncio.get_running_loop()
+        set_up(writer.get_extra_info("socket"))
 
     async def write(self, data: bytes, timeout: Optional[float]) -> None:
+        if self._is_of_another_loop():
+            raise ConnectionResetError("it belongs to another event loop")
         # It does not wait, so that what fails later is found as the answer is read: then it was sent. There is never much of it.
         self._writer.write(data)
         if self._writer.is_closing():
@@ -57,19 +68,37 @@ class StreamWire:
             raise UnexpectedAnswer("what answers is no such server: the answer is too long") from fault
 
     async def has_ended(self) -> bool:
+        if self._is_of_another_loop():
+            return True
         # The loop hears of an end in its next round, behind this task.
         for _ in range(2):
             await asyncio.sleep(0)
         return self._reader.at_eof() or self._writer.is_closing()
 
     def close(self) -> None:
-        # A loop that has ended closes nothing.
-        with suppress(RuntimeError):
+        if self._is_of_another_loop():
+            # That loop may have ended, and would close nothing.
+            with suppress(OSError):
+                self._writer.get_extra_info("socket").shutdown(socket.SHUT_RDWR)
+        else:
             self._writer.close()
+
+    def forget(self) -> None:
+        # Loops of both processes share a list of the files that they listen to. The one here may still close this file, by its
+        # number, which must not be that of the parent's connection then.
+        number = self._writer.get_extra_info("socket").fileno()
+        if number >= 0:
+            with open(os.devnull, "rb") as nothing:
+                os.dup2(nothing.fileno(), number, inheritable=False)
+
+    def _is_of_another_loop(self) -> bool:
+        return asyncio._get_running_loop() is not self._loop
 
 
 class TaskTurns(Turns):
     """Lets in one task at a time, for a call."""
+
+    remedy = "connect a client for each task, or use an aio.Pool"
 
     def user(self) -> object:
         try:
@@ -104,6 +133,17 @@ class Session(SessionCore):
         return await self._ask(*lines)
 
 
+def _asking(
+    make: Callable[Arguments, Operation[Result]]
+) -> Callable[Concatenate[Transaction, Arguments], Coroutine[Any, Any, Result]]:
+    """The method that asks for an operation of this kind."""
+
+    async def method(tx: Transaction, /, *numbers: Arguments.args, **named: Arguments.kwargs) -> Result:
+        return await tx.ask(make(*numbers, **named))
+
+    return named_as(make, method)
+
+
 class Transaction(TransactionCore):
     """As `mltx.Transaction`."""
 
@@ -113,41 +153,18 @@ class Transaction(TransactionCore):
     async def __aexit__(self, kind: Any, error: Any, trace: Any) -> None:
         await self._leave(kind is None)
 
-    async def open(self, account: int) -> Reply:
-        return await self.ask(Operation.open(account))
-
-    async def close(self, account: int) -> Reply:
-        return await self.ask(Operation.close(account))
-
-    async def deposit(self, account: int, amount: int) -> Reply:
-        return await self.ask(Operation.deposit(account, amount))
-
-    async def withdraw(self, account: int, amount: int) -> Reply:
-        return await self.ask(Operation.withdraw(account, amount))
-
-    async def balance(self, account: int) -> Optional[int]:
-        return await self.ask(Operation.balance(account))
-
-    async def add(self, set_number: int, element: int) -> Reply:
-        return await self.ask(Operation.add(set_number, element))
-
-    async def remove(self, set_number: int, element: int) -> Reply:
-        return await self.ask(Operation.remove(set_number, element))
-
-    async def has(self, set_number: int, element: int) -> bool:
-        return await self.ask(Operation.has(set_number, element))
-
-    async def size(self, set_number: int) -> int:
-        return await self.ask(Operation.size(set_number))
-
-    async def up(self, counter: int, amount: int) -> Reply:
-        return await self.ask(Operation.up(counter, amount))
-
-    async def down(self, counter: int, amount: int) -> Reply:
-        return await self.ask(Operation.down(counter, amount))
-
-    async def read(self, counter: int) -> int:
-        return await self.ask(Operation.read(counter))
+    open = _asking(Operation.open)
+    close = _asking(Operation.close)
+    deposit = _asking(Operation.deposit)
+    withdraw = _asking(Operation.withdraw)
+    balance = _asking(Operation.balance)
+    add = _asking(Operation.add)
+    remove = _asking(Operation.remove)
+    has = _asking(Operation.has)
+    size = _asking(Operation.size)
+    up = _asking(Operation.up)
+    down = _asking(Operation.down)
+    read = _asking(Operation.read)
 
     async def ask(self, operation: Operation[Result]) -> Result:
         return (await self._ask_all([operation]))[0]
@@ -192,6 +209,11 @@ class Client(ClientCore[Session, Transaction]):
     ) -> Result:
         return await self._run(function, retries)
 
+    async def run_all(
+        self, operations: Iterable[Operation[Result]], *, partly: bool = False, retries: Optional[Retries] = None
+    ) -> list[Result]:
+        return await self._run_all(operations, partly, retries)
+
     def attempts(self, *, retries: Optional[Retries] = None) -> Iterator[Attempt]:
         """The tries of a transaction, for a loop that is no `async for`.
 
@@ -205,8 +227,12 @@ class Client(ClientCore[Session, Transaction]):
     def _new_turns(self) -> Turns:
         return TaskTurns()
 
-    def _transaction(self, session: Session, number: int, attempt: int) -> Transaction:
-        return Transaction(session, number, attempt)
+    def _transaction(self, session: Session, attempt: int) -> Transaction:
+        return Transaction(session, attempt)
+
+    async def _server_number(self, admin: str) -> int:
+        status = await asyncio.to_thread(Operator(admin, timeout=self.connect_timeout).status)
+        return status["server"]
 
     async def _connect(self) -> Session:
         timeouts = self.connect_timeout, self.answer_timeout, self.session_timeout
@@ -216,27 +242,18 @@ class Client(ClientCore[Session, Transaction]):
         await asyncio.sleep(seconds)
 
 
-async def connect(
-    address: Optional[str] = None,
-    port: Optional[int] = None,
-    *,
-    connect_timeout: Optional[float] = 5.0,
-    answer_timeout: Optional[float] = None,
-    session_timeout: Optional[float] = 5.0,
-    retries: Retries = Retries(),
-    on_retry: Optional[OnRetry] = None,
-) -> Client:
-    """A client that has connected, with these arguments of `Client`. Raises `ServerAway`."""
-    client = Client(
-        *(address, port),
-        connect_timeout=connect_timeout,
-        answer_timeout=answer_timeout,
-        session_timeout=session_timeout,
-        retries=retries,
-        on_retry=on_retry,
-    )
-    await client.session()
-    return client
+def _connecting(make: Callable[Arguments, Client]) -> Callable[Arguments, Coroutine[Any, Any, Client]]:
+    async def connect(*given: Arguments.args, **options: Arguments.kwargs) -> Client:
+        """A client that has connected, with the arguments of `Client`. Raises `ServerAway`."""
+        client = make(*given, **options)
+        await client.session()
+        return client
+
+    connect.__signature__ = inspect.signature(make)  # type: ignore[attr-defined]
+    return connect
+
+
+connect = _connecting(Client)
 
 
 class Pool(PoolCore[Client]):
@@ -271,8 +288,16 @@ class Pool(PoolCore[Client]):
     async def run(
         self, function: Callable[[Transaction], Awaitable[Result]], *, retries: Optional[Retries] = None
     ) -> Result:
+        self._must_not_nest()
         async with self.client() as client:
             return await client.run(function, retries=retries)
+
+    async def run_all(
+        self, operations: Iterable[Operation[Result]], *, partly: bool = False, retries: Optional[Retries] = None
+    ) -> list[Result]:
+        self._must_not_nest()
+        async with self.client() as client:
+            return await client.run_all(operations, partly=partly, retries=retries)
 
     def _future(self) -> Any:
         return asyncio.get_running_loop().create_future()
@@ -280,30 +305,3 @@ class Pool(PoolCore[Client]):
     async def _wait(self, future: Any) -> None:
         await asyncio.wait([future], timeout=self.timeout)
 
-
-class Operator:
-    """As `mltx.Operator`, each call in a thread of its own."""
-
-    def __init__(self, address: str, port: Optional[int] = None, *, timeout: Optional[float] = 5.0) -> None:
-        self._operator = admin.Operator(address, port, timeout=timeout)
-
-    async def status(self) -> dict[str, int]:
-        return await asyncio.to_thread(self._operator.status)
-
-    async def waits(self) -> list[admin.Wait]:
-        return await asyncio.to_thread(self._operator.waits)
-
-    async def sessions(self) -> list[admin.ServedSession]:
-        return await asyncio.to_thread(self._operator.sessions)
-
-    async def objects(self, kind: str, of: Optional[int] = None) -> list[tuple[int, Optional[int]]]:
-        return await asyncio.to_thread(lambda: list(self._operator.objects(kind, of)))
-
-    async def end_session(self, client: int) -> None:
-        await asyncio.to_thread(self._operator.end_session, client)
-
-    async def save(self) -> int:
-        return await asyncio.to_thread(self._operator.save)
-
-    async def stop(self) -> None:
-        await asyncio.to_thread(self._operator.stop)

@@ -2,17 +2,41 @@
 
 from __future__ import annotations
 
+import inspect
+import select
 import socket
 import time
+from collections import deque
 from collections.abc import Callable, Iterable, Iterator
 from concurrent import futures
 from contextlib import contextmanager
-from typing import Any, Optional
+from typing import TYPE_CHECKING, Any, Optional
 
-from .core import MOST_ANSWER_BYTES, AttemptCore, ClientCore, OnRetry, PoolCore, Retries, SessionCore, TransactionCore, Turns, now
-from .core import until_last
+from .admin import Operator
+from .core import MOST_ANSWER_BYTES, AttemptCore, ClientCore, PoolCore, Retries, SessionCore, TransactionCore, Turns, named_as
+from .core import now, set_up, until_last
 from .errors import ServerAway
-from .operations import Operation, Reply, Result
+from .operations import Operation, Result
+
+if TYPE_CHECKING:
+    from typing_extensions import Concatenate, ParamSpec
+
+    Arguments = ParamSpec("Arguments")
+
+# How many bytes of answers are read at once, at most.
+MOST_READ_BYTES = 65_536
+# A call with it does not wait, where a system has that.
+AT_ONCE = getattr(socket, "MSG_DONTWAIT", 0)
+
+
+def is_ready(connected: socket.socket, is_to_write: bool, until: Optional[float]) -> bool:
+    """Whether a socket can be read or written at that time, or before."""
+    seconds = None if until is None else max(0.0, until - time.monotonic())
+    if hasattr(select, "poll"):
+        poll = select.poll()
+        poll.register(connected, select.POLLOUT if is_to_write else select.POLLIN)
+        return bool(poll.poll(None if seconds is None else seconds * 1_000))
+    return any(select.select([] if is_to_write else [connected], [connected] if is_to_write else [], [], seconds))
 
 
 class SocketWire:
@@ -23,33 +47,52 @@ class SocketWire:
             self._socket = socket.create_connection((host, port), timeout)
         except OSError as fault:
             raise ServerAway(f"no server answers at {host}:{port} ({fault})") from fault
-        self._socket.setsockopt(socket.IPPROTO_TCP, socket.TCP_NODELAY, 1)
-        self._answers = self._socket.makefile("rb")
+        set_up(self._socket)
+        self._socket.settimeout(None)
+        # Lines that came and were not asked for, and what came behind them.
+        self._lines, self._rest = deque[bytes](), b""
 
     async def write(self, data: bytes, timeout: Optional[float]) -> None:
-        self._wait_for(timeout)
-        self._socket.sendall(data)
+        if timeout is None:
+            self._socket.sendall(data)
+            return
+        until, rest = time.monotonic() + timeout, memoryview(data)
+        while rest:
+            try:
+                rest = rest[self._socket.send(rest, AT_ONCE) :]
+            except BlockingIOError:
+                self._wait(True, until)
 
     async def read_line(self, timeout: Optional[float]) -> bytes:
-        self._wait_for(timeout)
-        return self._answers.readline(MOST_ANSWER_BYTES)
+        until = None if timeout is None else time.monotonic() + timeout
+        while not self._lines:
+            if until is not None:
+                self._wait(False, until)
+            piece = self._socket.recv(MOST_READ_BYTES)
+            *whole, self._rest = (self._rest + piece).split(b"\n")
+            self._lines.extend([line + b"\n" for line in whole])
+            if not piece or len(self._rest) >= MOST_ANSWER_BYTES:
+                self._lines.append(self._rest)
+                self._rest = b""
+        return self._lines.popleft()
 
     async def has_ended(self) -> bool:
-        self._wait_for(0)
         try:
-            return not self._socket.recv(1, socket.MSG_PEEK)
+            return (bool(AT_ONCE) or is_ready(self._socket, False, 0)) and not self._socket.recv(1, socket.MSG_PEEK | AT_ONCE)
         except BlockingIOError:
             return False
         except OSError:
             return True
 
     def close(self) -> None:
-        self._answers.close()
         self._socket.close()
 
-    def _wait_for(self, timeout: Optional[float]) -> None:
-        if timeout != self._socket.gettimeout():
-            self._socket.settimeout(timeout)
+    # A connection that a process has closed goes on in another one.
+    forget = close
+
+    def _wait(self, is_to_write: bool, until: float) -> None:
+        if not is_ready(self._socket, is_to_write, until):
+            raise socket.timeout("timed out")
 
 
 class Session(SessionCore):
@@ -81,7 +124,7 @@ class Session(SessionCore):
 
     def receive(self) -> str:
         """The next answer, without its line feed. Raises `ConnectionLost`."""
-        return now(self._receive())
+        return now(self._receive())[0]
 
     def ask(self, *lines: str) -> list[str]:
         """The answers to these lines, of which none is blank. Up to `MOST_UNANSWERED` go out in one write."""
@@ -92,6 +135,15 @@ class Session(SessionCore):
         `SessionsTaken`, and what `ask` raises."""
         if not self.is_held:
             self.ask("abort")
+
+
+def _asking(make: Callable[Arguments, Operation[Result]]) -> Callable[Concatenate[Transaction, Arguments], Result]:
+    """The method that asks for an operation of this kind."""
+
+    def method(tx: Transaction, /, *numbers: Arguments.args, **named: Arguments.kwargs) -> Result:
+        return tx.ask(make(*numbers, **named))
+
+    return named_as(make, method)
 
 
 class Transaction(TransactionCore):
@@ -105,66 +157,32 @@ class Transaction(TransactionCore):
 
     session: Session
 
+    @property
+    def number(self) -> int:
+        """Its number, which no other transaction of the server has."""
+        now(self.session._begin_now())
+        return self._number
+
     def __enter__(self) -> Transaction:
         return self
 
     def __exit__(self, kind: Any, error: Any, trace: Any) -> None:
         now(self._leave(kind is None))
 
-    # Accounts: each is absent, or has a balance of 0 to 10^18.
+    # The operations, each with the arguments and the result of the one of `Operation`.
 
-    def open(self, account: int) -> Reply:
-        """Opens an account with balance 0: `OPENED`, or `EXISTS` if it is there."""
-        return self.ask(Operation.open(account))
-
-    def close(self, account: int) -> Reply:
-        """Closes an account: `CLOSED`, or `NOT_EMPTY` if its balance is not 0, or `MISSING`."""
-        return self.ask(Operation.close(account))
-
-    def deposit(self, account: int, amount: int) -> Reply:
-        """Puts an amount into an account: `DONE`, or `OVER` if the balance would be above 10^18, or `MISSING`."""
-        return self.ask(Operation.deposit(account, amount))
-
-    def withdraw(self, account: int, amount: int) -> Reply:
-        """Takes an amount out of an account: `DONE`, or `SHORT` if the balance is less, or `MISSING`."""
-        return self.ask(Operation.withdraw(account, amount))
-
-    def balance(self, account: int) -> Optional[int]:
-        """The balance of an account, or None if there is none."""
-        return self.ask(Operation.balance(account))
-
-    # Sets of elements.
-
-    def add(self, set_number: int, element: int) -> Reply:
-        """Puts an element into a set: `ADDED`, or `PRESENT` if it is there."""
-        return self.ask(Operation.add(set_number, element))
-
-    def remove(self, set_number: int, element: int) -> Reply:
-        """Takes an element out of a set: `REMOVED`, or `ABSENT` if it is not there."""
-        return self.ask(Operation.remove(set_number, element))
-
-    def has(self, set_number: int, element: int) -> bool:
-        """Whether an element is in a set."""
-        return self.ask(Operation.has(set_number, element))
-
-    def size(self, set_number: int) -> int:
-        """How many elements a set has. While another transaction adds an element to the set, or removes one, the call waits
-        until that transaction has ended."""
-        return self.ask(Operation.size(set_number))
-
-    # Counters: each is there, and has a value of 0 to 2^64 - 1, which is 0 at the start.
-
-    def up(self, counter: int, amount: int) -> Reply:
-        """Raises a counter by an amount, modulo 2^64: `DONE`."""
-        return self.ask(Operation.up(counter, amount))
-
-    def down(self, counter: int, amount: int) -> Reply:
-        """Lowers a counter by an amount, modulo 2^64: `DONE`."""
-        return self.ask(Operation.down(counter, amount))
-
-    def read(self, counter: int) -> int:
-        """The value of a counter."""
-        return self.ask(Operation.read(counter))
+    open = _asking(Operation.open)
+    close = _asking(Operation.close)
+    deposit = _asking(Operation.deposit)
+    withdraw = _asking(Operation.withdraw)
+    balance = _asking(Operation.balance)
+    add = _asking(Operation.add)
+    remove = _asking(Operation.remove)
+    has = _asking(Operation.has)
+    size = _asking(Operation.size)
+    up = _asking(Operation.up)
+    down = _asking(Operation.down)
+    read = _asking(Operation.read)
 
     # What all operations go through, and the ends.
 
@@ -241,13 +259,34 @@ class Client(ClientCore[Session, Transaction]):
         Raises `CommitUnknown` if the answer to the commit was lost, and `ServerRestarted` if the server is another one than
         before, and does not run it again. Any other exception aborts the transaction and is raised.
 
+        `begin` goes out with the first operations of the function, so a transaction takes one round trip for each call, and
+        one for the commit.
+
             total = client.run(lambda tx: tx.balance(1) + tx.balance(2))
         """
 
         async def call(tx: Transaction) -> Result:
-            return function(tx)
+            result = function(tx)
+            if inspect.isawaitable(result):
+                if inspect.iscoroutine(result):
+                    result.close()
+                raise TypeError("an async function was given to the blocking client: use mltx.aio")
+            return result
 
         return now(self._run(call, retries))
+
+    def run_all(
+        self, operations: Iterable[Operation[Result]], *, partly: bool = False, retries: Optional[Retries] = None
+    ) -> list[Result]:
+        """Runs a transaction of these operations, as `run` does, and returns their results.
+
+        A single operation takes one round trip, with `begin` and the commit. Several take two: they are committed once none of
+        them was refused. With `partly` they take one too, and if some are refused the others are committed all the same, and
+        `PartlyDone` is raised. If the connection ends in the one round trip, `CommitUnknown` is raised.
+
+            client.run_all([Operation.up(7, 1)])
+        """
+        return now(self._run_all(operations, partly, retries))
 
     def attempts(self, *, retries: Optional[Retries] = None) -> Iterator[Attempt]:
         """The tries of a transaction, for code that is no function. A try that `run` would run again ends its block, and the
@@ -262,8 +301,11 @@ class Client(ClientCore[Session, Transaction]):
         tries = self._tries(retries)
         return until_last(lambda: Attempt(self, tries))
 
-    def _transaction(self, session: Session, number: int, attempt: int) -> Transaction:
-        return Transaction(session, number, attempt)
+    def _transaction(self, session: Session, attempt: int) -> Transaction:
+        return Transaction(session, attempt)
+
+    async def _server_number(self, admin: str) -> int:
+        return Operator(admin, timeout=self.connect_timeout).status()["server"]
 
     async def _connect(self) -> Session:
         return Session(self.host, self.port, self.connect_timeout, self.answer_timeout, self.session_timeout, self._turns)
@@ -272,31 +314,22 @@ class Client(ClientCore[Session, Transaction]):
         time.sleep(seconds)
 
 
-def connect(
-    address: Optional[str] = None,
-    port: Optional[int] = None,
-    *,
-    connect_timeout: Optional[float] = 5.0,
-    answer_timeout: Optional[float] = None,
-    session_timeout: Optional[float] = 5.0,
-    retries: Retries = Retries(),
-    on_retry: Optional[OnRetry] = None,
-) -> Client:
-    """A client that has connected, with these arguments of `Client`. Raises `ServerAway`.
+def _connecting(make: Callable[Arguments, Client]) -> Callable[Arguments, Client]:
+    def connect(*given: Arguments.args, **options: Arguments.kwargs) -> Client:
+        """A client that has connected, with the arguments of `Client`. Raises `ServerAway`.
 
         with mltx.connect("127.0.0.1:7000", connect_timeout=2.0) as client:
             ...
-    """
-    client = Client(
-        *(address, port),
-        connect_timeout=connect_timeout,
-        answer_timeout=answer_timeout,
-        session_timeout=session_timeout,
-        retries=retries,
-        on_retry=on_retry,
-    )
-    client.session()
-    return client
+        """
+        client = make(*given, **options)
+        client.session()
+        return client
+
+    connect.__signature__ = inspect.signature(make)  # type: ignore[attr-defined]
+    return connect
+
+
+connect = _connecting(Client)
 
 
 class Pool(PoolCore[Client]):
@@ -337,9 +370,18 @@ class Pool(PoolCore[Client]):
             self._give_back(client)
 
     def run(self, function: Callable[[Transaction], Result], *, retries: Optional[Retries] = None) -> Result:
-        """Takes a client, and runs the function by its `run`."""
+        """Takes a client, and runs the function by its `run`. Raises `Nested` inside another transaction of this thread."""
+        self._must_not_nest()
         with self.client() as client:
             return client.run(function, retries=retries)
+
+    def run_all(
+        self, operations: Iterable[Operation[Result]], *, partly: bool = False, retries: Optional[Retries] = None
+    ) -> list[Result]:
+        """As `Client.run_all`."""
+        self._must_not_nest()
+        with self.client() as client:
+            return client.run_all(operations, partly=partly, retries=retries)
 
     def _future(self) -> Any:
         return futures.Future[Client]()

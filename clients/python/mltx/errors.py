@@ -2,6 +2,8 @@
 
 from __future__ import annotations
 
+from typing import Any
+
 
 class MltxError(Exception):
     """What goes wrong between a client and its server."""
@@ -24,31 +26,31 @@ class Refused(MltxError):
 
 
 class OutOfMemory(Refused):
-    meaning = "the server had no memory for it"
+    meaning = "the server had no memory for it, or its trace is slow: try again later"
 
 
 class NoRoom(Refused):
-    meaning = "the pages of the server have no room for it"
+    meaning = "the pages of the server have no room for it: remove objects, or number them densely"
 
 
 class NoSuchTx(Refused):
-    meaning = "no transaction is open"
+    meaning = "no transaction is open: begin one"
 
 
 class Running(Refused):
-    meaning = "a transaction is open already"
+    meaning = "a transaction is open already on this connection: end it first, since transactions don't nest"
 
 
 class TooManyOpen(Refused):
-    meaning = "as many transactions are open as may be"
+    meaning = "as many transactions are open as may be: try again later, or raise `--sessions` of the server"
 
 
 class LogFull(Refused):
-    meaning = "the transaction has as many operations as it may have"
+    meaning = "the transaction has 1,024 operations, and may have no more: split it"
 
 
 class IdsSpent(Refused):
-    meaning = "all numbers of transactions were given out"
+    meaning = "all numbers of transactions were given out: restart the server"
 
 
 class ScriptFault(Refused):
@@ -85,16 +87,32 @@ class SessionsTaken(TimedOut):
 class CommitUnknown(MltxError):
     """The connection ended after a commit was sent and before its answer came: it may have been done or not.
 
-    `transaction` is the transaction's number. To run it again could do it twice, so `Client.run` doesn't, and this is
-    no `ConnectionLost`. To know, put a mark into each transaction, such as an element of a set, look for it, and take it
-    away again: it takes room."""
+    `transaction` is the transaction's number, or 0 if even that is not known. To run it again could do it twice, so
+    `Client.run` doesn't, and this is no `ConnectionLost`. To know, put a mark into each transaction, such as an element of a
+    set, look for it, and take it away again: it takes room."""
 
     def __init__(self, transaction: int) -> None:
         super().__init__(transaction)
         self.transaction = transaction
 
     def __str__(self) -> str:
-        return f"the connection ended, and it is not known whether transaction {self.transaction} was committed"
+        transaction = f"transaction {self.transaction}" if self.transaction else "the transaction"
+        return f"the connection ended, and it is not known whether {transaction} was committed"
+
+
+class PartlyDone(MltxError):
+    """Of a `run_all` with `partly` the server refused some operations, and committed the others.
+
+    `commit_number` is the number of the commit, and `outcomes` has for each operation its result, or the `Refused`."""
+
+    def __init__(self, commit_number: int, outcomes: list[Any]) -> None:
+        super().__init__(commit_number, outcomes)
+        self.commit_number = commit_number
+        self.outcomes = outcomes
+
+    def __str__(self) -> str:
+        refused = sum(isinstance(it, Refused) for it in self.outcomes)
+        return f"commit {self.commit_number} lacks {refused} of {len(self.outcomes)} operations, which the server refused"
 
 
 class TransactionOver(MltxError):
@@ -102,14 +120,18 @@ class TransactionOver(MltxError):
 
 
 class ServerRestarted(MltxError):
-    """The server is another one than before, and has nothing of what was committed there: it gave out a number of a
-    transaction that is not above all that the client, or its pool, had seen before it asked. No server does that. Nothing was
-    done; the client has closed the connection, and goes on with the new server when it is used again."""
+    """The server was restarted, and has only what it loaded: its number, of which `admin` tells, is another one, or it gave out
+    a number of a transaction that is not above all that the client, or its pool, had seen before it asked. Nothing was done;
+    the client has closed the connection, and goes on with the new server when it is used again."""
 
 
 class WrongThread(MltxError):
     """A client was called while another thread had a call or a transaction of it under way, or with asyncio another task a
     call. Nothing was sent, and the other one goes on."""
+
+
+class Nested(MltxError):
+    """A thread, or a task, that has a transaction of a pool open asked the pool to run another one. Nothing was sent."""
 
 
 class PoolTimeout(MltxError):
