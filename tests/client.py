@@ -3,8 +3,11 @@ end anywhere, and pipelines. All that was done stands in the server's trace, whi
 from __future__ import annotations
 
 import ast
+import base64
 import contextlib
+import csv
 import enum
+import hashlib
 import importlib.util
 import os
 import re
@@ -14,9 +17,11 @@ import subprocess
 import sys
 import threading
 import time
+import zipfile
 from collections import defaultdict
 from collections.abc import Callable, Iterable
 from concurrent.futures import Future, ThreadPoolExecutor
+from email.parser import BytesParser
 from pathlib import Path
 from typing import Any, TypeVar
 from unittest import mock
@@ -181,6 +186,74 @@ def client_can_be_installed(mltx: Program) -> None:
         given = "begin\nup 7 1\ncommit\n"
         ran = subprocess.run(words, input=given, capture_output=True, text=True, env=env, timeout=PATIENCE)
         same((ran.returncode, ran.stdout, ran.stderr), (0, "begun 1\ndone\ncommitted 1\n", ""), "the command")
+
+
+def built(source: Path, kind: str, folder: Path) -> Path:
+    """What the sources of the client build there, in a folder."""
+    folder.mkdir()
+    code = f"import build_wheel; print(build_wheel.build_{kind}({str(folder)!r}))"
+    made = subprocess.run([sys.executable, "-B", "-c", code], cwd=source, capture_output=True, text=True, timeout=PATIENCE)
+    same(made.returncode, 0, f"the build: {made.stderr}")
+    return folder / made.stdout.strip()
+
+
+@test
+def client_is_built_to_the_same_bytes(mltx: Program) -> None:
+    """By each clone, at any time; from a package of sources comes the same wheel, whose files and digests are all there."""
+    other, sources = mltx.folder / "other/clients/python", mltx.folder / "sources"
+    shutil.copytree(FOLDER, other, ignore=shutil.ignore_patterns("__pycache__"))
+    for name in ("LICENSE-MIT", "LICENSE-APACHE"):
+        shutil.copy(ROOT / name, mltx.folder / "other")
+    for path in other.rglob("*"):
+        os.utime(path, (10**9, 10**9))
+        path.chmod(0o700)
+    wheels = [built(source, "wheel", mltx.folder / name) for name, source in (("a", FOLDER), ("b", other))]
+    packages = [built(source, "sdist", mltx.folder / name) for name, source in (("c", FOLDER), ("d", other))]
+    shutil.unpack_archive(packages[0], sources)
+    wheels.append(built(next(sources.iterdir()), "wheel", mltx.folder / "e"))
+    same([it.name for it in packages + wheels], [packages[0].name] * 2 + [wheels[0].name] * 3, "the names")
+    same(len({it.read_bytes() for it in packages}), 1, "the packages of sources")
+    same(len({it.read_bytes() for it in wheels}), 1, "the wheels")
+    with zipfile.ZipFile(wheels[0]) as wheel:
+        names = {name for name in wheel.namelist() if name.startswith("mltx/")}
+        same(names, {it.relative_to(FOLDER).as_posix() for it in FOLDER.glob("mltx/*") if it.is_file()}, "the modules")
+        (info,) = {name.partition("/")[0] for name in wheel.namelist()} - {"mltx"}
+        metadata = BytesParser().parsebytes(wheel.read(f"{info}/METADATA"))
+        same(metadata["License-Expression"], "MIT OR Apache-2.0")
+        holds(metadata["Author"] in (ROOT / "LICENSE-MIT").read_text(), "the author is the licence's")
+        for name in metadata.get_all("License-File", []):
+            same(wheel.read(f"{info}/licenses/{name}"), (ROOT / name).read_bytes(), name)
+        for name, digest, length in csv.reader(wheel.read(f"{info}/RECORD").decode().splitlines()):
+            found = hashlib.sha256(wheel.read(name)).digest()
+            wanted = ("sha256=" + base64.urlsafe_b64encode(found).decode().rstrip("="), str(wheel.getinfo(name).file_size))
+            holds(name.endswith("/RECORD") or (digest, length) == wanted, f"the digest of {name}")
+
+
+@test
+def client_is_installed_as_it_is_edited(mltx: Program) -> None:
+    """An editable installation imports from the sources."""
+    with zipfile.ZipFile(built(FOLDER, "editable", mltx.folder / "wheel")) as wheel:
+        wheel.extractall(mltx.folder / "site")
+    code = f"import site; site.addsitedir({str(mltx.folder / 'site')!r}); import mltx, importlib.metadata as told; "
+    code += "print(mltx.__file__, told.version('mltx-client') == mltx.__version__)"
+    found = subprocess.run([sys.executable, "-B", "-c", code], cwd=mltx.folder, capture_output=True, text=True)
+    same(found.stdout, f"{FOLDER / 'mltx/__init__.py'} True\n", f"the package: {found.stderr}")
+
+
+# How the prompt is started, and the name of its usage line.
+PROMPTS = {
+    "usage-of-the-prompt": ([sys.executable, "-B", "-m", "mltx"], "python3 -m mltx"),
+    "usage-of-the-installed-prompt": ([sys.executable, "-B", "-c", "import mltx.shell as it; it.main()"], "mltx-shell"),
+    "usage-of-mltx-shell": ([str(ROOT / "mltx"), "shell"], "mltx shell"),
+}
+
+
+@each(PROMPTS)
+def usage_of_a_prompt(_mltx: Program, case: tuple[list[str], str]) -> None:
+    words, name = case
+    env = {**os.environ, "PYTHONPATH": str(FOLDER), "PYTHONDONTWRITEBYTECODE": "1"}
+    ran = subprocess.run([*words, "--help"], capture_output=True, text=True, env=env, timeout=PATIENCE)
+    same((ran.stdout.partition(" [")[0], ran.returncode), (f"usage: {name}", 0), ran.stderr)
 
 
 @test
