@@ -1,9 +1,6 @@
 """A base that is carried over: `--load` of `solo`, `run` and `serve`, `serve --save`, and `/base` and `/save` of the operator."""
 import errno
 import os
-"""A base that is carried over: `--load` of `solo`, `run` and `serve`, `serve --save`, and `/base` and `/save` of the operator."""
-import errno
-import os
 import random
 import resource
 import signal

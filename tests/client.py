@@ -23,7 +23,7 @@ from collections.abc import Callable, Iterable
 from concurrent.futures import Future, ThreadPoolExecutor
 from email.parser import BytesParser
 from pathlib import Path
-from typing import Any, TypeVar
+from typing import TypeVar
 from unittest import mock
 
 from harness import BROKEN, BY_OPERATOR, PATIENCE, ROOT, Address, Program, Server, comes_to_be, cut_for, each, expect

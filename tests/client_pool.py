@@ -126,7 +126,7 @@ def transaction_that_is_left_open(mltx: Program) -> None:
     with served as server, caught as told, connected(server) as client:
         warnings.simplefilter("always")
         client.run(lambda tx: tx.up(7, 1))
-        with contextlib.suppress(KeyError), client.begin() as tx:
+        with contextlib.suppress(KeyError), client.begin():
             raise KeyError
         client.begin().up(8, 1)
         gc.collect()
@@ -492,20 +492,21 @@ def fork_under_a_lock(mltx: Program) -> None:
 
 @test
 def asyncio_over_a_fork(mltx: Program) -> None:
-    """The child has a loop of its own, and the parent's goes on to listen to its connections."""
+    """The child has a loop of its own, and the parent's goes on to listen to its connections, which the child doesn't end."""
 
-    async def count(pool: aio.Pool) -> int:
-        return await pool.run(lambda tx: counted(tx))
-
-    async def counted(tx: aio.Transaction) -> int:
-        await tx.up(7, 1)
-        return await tx.read(7)
+    async def counted(tx: aio.Transaction, counter: int) -> int:
+        await tx.up(counter, 1)
+        return await tx.read(counter)
 
     async def use() -> None:
         async with aio.Pool(*server.address, size=2) as pool:
-            same(await count(pool), 1)
-            same(in_a_fork(lambda: asyncio.run(count(pool))), "2", "what the child counts")
-            same(await asyncio.wait_for(count(pool), PATIENCE), 3, "what the parent counts then")
+            same(await pool.run(lambda tx: counted(tx, 7)), 1)
+            async with pool.client() as client, await client.begin() as tx:
+                same(await counted(tx, 7), 2)
+                child = in_a_fork(lambda: asyncio.run(pool.run(lambda tx: counted(tx, 8))))
+                same(child, "1", "what the child counts")
+                same(await asyncio.wait_for(counted(tx, 7), PATIENCE), 3, "what the parent counts then")
+            same(await pool.run(lambda tx: counted(tx, 8)), 2, "what it counts where the child did")
 
     with mltx.serve("--endless", limit=None) as server:
         connected(server).close()

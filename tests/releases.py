@@ -114,9 +114,9 @@ REFUSED: dict[str, tuple[Callable[[Clone], object], str]] = {
     "of-an-unproved-program": (lambda clone: clone.prove(f"mltx {VERSION} (not proved)", NONE), "the program is not proved: .*"),
     "of-no-program": (lambda clone: clone.program.unlink(), "there is no program crates/mltx/out/mltx: .*"),
     "of-an-older-program": (is_older, "a source is newer than the program: .*"),
-    "of-another-version": (lambda clone: clone.prove("mltx 9.9.9", NONE), f"the program has the version 9.9.9, and .*{VERSION}.*"),
+    "of-another-version": (lambda clone: clone.prove("mltx 9.9.9", NONE), f"the program has the version 9.9.9, .*{VERSION}.*"),
     "of-a-gate-that-failed": (
-        lambda clone: clone.log.write_text(clone.log.read_text().replace(" 0 failed", " 1 failed")), ".* '812 passed, 1 failed'",
+        lambda clone: clone.log.write_text("812 passed, 1 failed\n"), ".* '812 passed, 1 failed'",
     ),
     "of-a-gate-that-broke-off": (lambda clone: clone.log.write_text("crate a: passed\n"), ".* 'crate a: passed'"),
     "of-the-gate-of-another-commit": (
