@@ -6,6 +6,8 @@ import re
 import shutil
 import subprocess
 import sys
+from importlib.machinery import ModuleSpec, SourceFileLoader
+from importlib.util import module_from_spec, spec_from_loader
 from pathlib import Path
 
 from harness import PATIENCE, ROOT, TESTS, Program, holds, match, same, test
@@ -36,6 +38,20 @@ def pytest_runs_each_test(mltx: Program) -> None:
     holds("wanted status 0, standard output b'mltx " in told, f"the reason in {told}")
     match(r"(?m)^1 failed", told)
     same(status, 1, "the status of a failure")
+
+
+@test
+def words_of_documents_are_counted(_mltx: Program) -> None:
+    """Those that somebody wrote as prose, in tables too; no marks, blocks and targets of links, and nothing that a tool wrote."""
+    loader = SourceFileLoader("check", str(ROOT / "tools/check"))
+    check = module_from_spec(spec_from_loader("check", loader) or ModuleSpec("check", loader))
+    loader.exec_module(check)
+    page = "# A title\n\nOne [two three](four/five.md#six), `seven`\neight:\n\n    a block here\n\n"
+    page += "| Nine | ten 11 |\n|---|---|\n| - | .. |\n```\nanother block\n```\n- and it's twelve\n"
+    same(check.words_of(Path("docs/X.md"), page), 2 + 3 + 1 + 1 + 3 + 3, "the words of a page")
+    by_tool = "By hand.\n\n`tools/cli-page --write` puts the help here.\n\nHelp\n"
+    same(check.words_of(Path("docs/CLI.md"), by_tool), 2, "those of CLI")
+    same(check.words_of(Path("docs/HEADLINE.md"), page), 0, "those of HEADLINE")
 
 
 @test(seconds=5)
