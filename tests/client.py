@@ -712,7 +712,7 @@ def sessions_that_are_all_taken(mltx: Program) -> None:
         holder.run(lambda tx: tx.up(7, 1))
         with Client(*server.address, session_timeout=SILENCE) as client:
             said = str(raised(SessionsTaken, client.begin))
-            holds(said.startswith("all sessions of the server are taken, or it has stopped"), said)
+            match("^all sessions of the server are taken, or it has stopped: .*; give it more --sessions$", said)
             few = Retries(first_pause=0.001, connects=2)
             raised(SessionsTaken, lambda: client.run(lambda tx: 1 // 0, retries=few))
         with Client(*server.address, session_timeout=None, answer_timeout=SILENCE) as client:
@@ -882,6 +882,9 @@ MISTAKES: dict[str, tuple[Callable[[Client], object], type[Exception], str]] = {
     ),
     "operation-of-a-client": (lambda client: client.up(7, 1), AttributeError, "client.run("),  # type: ignore[attr-defined]
     "number-for-an-address": (lambda _: Client(7000), TypeError, "HOST:PORT"),  # type: ignore[arg-type]
+    "operator-at-the-port-of-clients": (
+        lambda client: Operator(client.host, client.port).status(), ConnectionLost, "is it the server's --admin?",
+    ),
     "too-many-operations": (lambda client: client.run_all([Operation.read(7)] * 1_025), LogFull, "split it"),
 }
 
@@ -894,7 +897,7 @@ async def waits_for_nothing(tx: Transaction) -> None:
 def mistakes(mltx: Program, case: tuple[Callable[[Client], object], type[Exception], str]) -> None:
     """The exception says what to do, and nothing is done."""
     call, kind, said = case
-    with mltx.serve() as server, connected(server) as client:
+    with mltx.serve(limit=2) as server, connected(server) as client:
         error = raised(kind, call, client)
         holds(said in str(error), f"{error} has {said}")
         same(client.run(lambda tx: tx.read(7)), 0, "the counter")
@@ -943,7 +946,7 @@ def client_that_is_refused_while_all_sessions_are_taken(mltx: Program) -> None:
         held = holder.begin()
         began = time.monotonic()
         with Client(*server.address, session_timeout=PATIENCE) as client:
-            raised(SessionsTaken, client.begin)
+            match("--sessions$", str(raised(SessionsTaken, client.begin)))
             raised(SessionsTaken, client.run, lambda tx: tx.up(7, 1))
             holds(time.monotonic() - began < PATIENCE / 4, "it waits for a session")
             held.commit()

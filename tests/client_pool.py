@@ -28,7 +28,7 @@ from typing import Any, TypeVar
 from unittest import mock
 
 from client import BREAKS, FIRST, PATIENT, RESULTS, Relay, Scripted, connected, dribbles, raised
-from harness import PATIENCE, Address, Program, comes_to_be, each, expect, free_address, holds, lines, same, test
+from harness import PATIENCE, Address, Program, comes_to_be, each, expect, free_address, holds, lines, match, same, test
 
 import mltx as client_module
 from mltx import Client, CommitUnknown, ConnectionLost, GaveUp, LogFull, MltxError, Nested, Operation, Operator, Pool, PoolTimeout
@@ -59,7 +59,8 @@ def client_of_another_thread(mltx: Program) -> None:
             calls: list[Callable[[], object]] = [client.begin, client.session, client.close, lambda: tx.up(7, 1), tx.commit]
             calls += [tx.abort, tx.session.close, tx.session.has_ended, lambda: tx.session.ask("up 7 1")]
             for call in calls:
-                holds("MainThread" in str(in_a_thread(raised, WrongThread, call)), "the thread is named that has it")
+                said = str(in_a_thread(raised, WrongThread, call))
+                match("MainThread.*: connect a client for each thread, or use a Pool$", said)
             same((tx.session.bytes_left, tx.is_open), (left, True), "the transaction of the first thread")
             tx.up(7, 1)
         same(in_a_thread(lambda: client.run(lambda tx: tx.read(7))), 1, "what another thread reads behind it")
@@ -321,7 +322,7 @@ def pool_is_bounded(mltx: Program) -> None:
                 holds(one is not other, "two clients")
                 pool.timeout = 0.05
                 began = time.monotonic()
-                raised(PoolTimeout, pool.run, lambda tx: tx.up(7, 1))
+                match("raise its size$", str(raised(PoolTimeout, pool.run, lambda tx: tx.up(7, 1))))
                 holds(0.05 <= time.monotonic() - began < PATIENCE, "how long it waits")
                 pool.timeout, waiting = None, list[Future[None]]()
                 for number in range(6):
@@ -740,6 +741,7 @@ def asyncio_of_many_tasks(mltx: Program) -> None:
                 tx = await other.begin()
                 both = await asyncio.gather(tx.read(8), one_more(tx), held.up(8, 1), return_exceptions=True, *[ended(held)])
                 same([type(it) for it in both], [int, WrongThread, Reply, int], "what two calls at a time come to")
+                match("Task.*: connect a client for each task, or use an aio.Pool$", str(both[1]))
                 await tx.commit()
                 held = await one.begin()
                 await held.up(8, 1)

@@ -140,7 +140,8 @@ class Operator:
         except socket.timeout as fault:
             raise TimedOut(f"no answer to {method} {path} came within {self.timeout} seconds") from fault
         except http.client.RemoteDisconnected as fault:
-            raise ConnectionLost(f"the connection ended without an answer to {method} {path}") from fault
+            said = f"the connection ended without an answer to {method} {path}: is it the server's --admin?"
+            raise ConnectionLost(said) from fault
         except http.client.HTTPException as fault:
             raise UnexpectedAnswer(f"the answer to {method} {path} is none of HTTP ({fault!r})") from fault
         except OSError as fault:

@@ -160,7 +160,8 @@ class Transaction(TransactionCore):
     @property
     def number(self) -> int:
         """Its number, which no other transaction of the server has."""
-        now(self.session._begin_now())
+        if self.is_open:
+            now(self.session._begin_now())
         return self._number
 
     def __enter__(self) -> Transaction:

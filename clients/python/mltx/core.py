@@ -306,7 +306,7 @@ class SessionCore(PerProcess):
                 " long, or an operator ended it"
             )
         if not self.is_held and answer == FULL:
-            raise SessionsTaken("all sessions of the server are taken: it connected, and refused the client")
+            raise SessionsTaken("all sessions of the server are taken, and it refused the client: give it more --sessions")
         self.is_held, self._timeout = True, self._answer_timeout
         return answer[:-1].decode("ascii", "replace")
 
@@ -334,7 +334,7 @@ class SessionCore(PerProcess):
             return TimedOut(f"no answer came within {self._timeout} seconds, and the connection was closed")
         return SessionsTaken(
             f"all sessions of the server are taken, or it has stopped: it connected, and did not answer within {self._timeout}"
-            " seconds"
+            " seconds; give it more --sessions"
         )
 
 
@@ -838,7 +838,8 @@ class PoolCore(PerProcess, Generic[ClientOf]):
         if self.is_closed:
             raise RuntimeError("the pool is closed")
         if not future.done():
-            raise PoolTimeout(f"all {len(self._clients)} clients of the pool were in use for {self.timeout} seconds")
+            clients = f"all {len(self._clients)} clients of the pool"
+            raise PoolTimeout(f"{clients} were in use for {self.timeout} seconds: raise its size")
         client: ClientOf = future.result()
         self._users[client] = client._turns.user()
         return client
