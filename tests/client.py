@@ -579,7 +579,7 @@ def transactions_of_one_write(mltx: Program) -> None:
             same(client.run_all(mixed, partly=True), [Reply.DONE, 0, None])
             with holder.begin() as held:
                 held.up(7, 1)
-                error = raised(PartlyDone, lambda: client.run_all(both, partly=True))
+                error = raised(PartlyDone, lambda: client.run_all(both, partly=True, retries=Retries(attempts=2)))
                 same([str(it)[:16] for it in error.outcomes], ["done", "error 14 GaveUp:"], "the outcomes")
                 same((error.commit_number, str(error)), (2, "commit 2 lacks 1 of 2 operations, which the server refused"))
                 raised(GaveUp, lambda: client.run_all(both, retries=Retries(attempts=2)))
