@@ -40,6 +40,17 @@ def pytest_runs_each_test(mltx: Program) -> None:
     same(status, 1, "the status of a failure")
 
 
+@test(seconds=2)
+def tools_have_help(_mltx: Program) -> None:
+    """Each tool says by --help how it is called, and does nothing else."""
+    tools = [it for it in sorted((ROOT / "tools").iterdir()) if it.is_file()]
+    holds(len(tools) > 10, "there are tools")
+    for tool in tools:
+        ran = subprocess.run([tool, "--help"], capture_output=True, text=True, timeout=PATIENCE, stdin=subprocess.DEVNULL)
+        same((ran.returncode, ran.stderr), (0, ""), f"the help of {tool.name}")
+        match(rf"tools/{tool.name}\b|usage: mltx-{tool.name}", ran.stdout)
+
+
 @test
 def words_of_documents_are_counted(_mltx: Program) -> None:
     """Those that somebody wrote as prose, in tables too; no marks, blocks and targets of links, and nothing that a tool wrote."""
