@@ -27,7 +27,7 @@ from .errors import SessionsTaken, TimedOut, TooManyOpen, TransactionOver, Unexp
 from .operations import FORMS, Argument, Form, Operation, Reply
 
 # The version of the client and of the program. It is changed here first: tests fail if another text has the old one.
-__version__ = "0.1.0"
+__version__ = "0.2.0"
 
 __all__ = ["connect", "parse_address", "Client", "Pool", "Retries", "Session", "Transaction", "Attempt"]
 __all__ += ["Operation", "Form", "FORMS", "Argument", "Reply"]
