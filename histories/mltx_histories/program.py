@@ -16,7 +16,7 @@ CHECKED, NOT_PROVED, REPLAYED = "which mltx check accepts", "; this mltx is not 
 
 @cache
 def version(program: Path) -> str:
-    """What the program says that it is, as `mltx 0.1.0 (not proved)`; nothing where it is not there."""
+    """What the program says that it is, as `mltx 0.2.0 (not proved)`; nothing where it is not there."""
     try:
         ran = subprocess.run([program, "--version"], stdout=subprocess.PIPE, text=True)
     except OSError:
