@@ -107,8 +107,8 @@ def crowd_on(system: System, crowd: Crowd, idle: int, processes: int, bench: Ben
 
 
 def idle_on(system: System, bench: Bench, program: Path) -> Sample:
-    """How much memory of a server an idle client takes, and how much of a processor all of them, once each has committed. The counters
-    and the threads' memory are there before, so that they are not counted."""
+    """How much memory of a server an idle client takes, and how much of a processor all of them, once each has committed. The
+    counters and the memory of threads are there before, so that they are not counted."""
     count = bench.pick(IDLE, 100)
     with system.start(bench, program) as server:
         told_of(bench, system, server, Crowd(200, whole=True))

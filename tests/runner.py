@@ -18,8 +18,10 @@ import harness  # noqa: E402
 
 # How many seconds a test may take, on a slow machine with other work beside.
 MOST_SECONDS = 300
+# Files that have no tests.
+NO_GROUPS = ("conftest", "harness", "model", "part_one", "runner")
 # The files of tests, which are the groups.
-GROUPS = sorted(file.stem for file in HERE.glob("*.py") if file.stem not in ("conftest", "harness", "model", "part_one", "runner"))
+GROUPS = sorted(file.stem for file in HERE.glob("*.py") if file.stem not in NO_GROUPS)
 PROVED, UNPROVED = (HERE.parent / name for name in ("crates/mltx/out/mltx", "out/unproved/mltx"))
 
 

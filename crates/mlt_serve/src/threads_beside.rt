@@ -225,44 +225,6 @@ impl<'a, P: Pseudo + Send, L: MadeWith<P> + Send + Sync> Service<'a, P, L> {
         is_short
     }
 
-    /// Loads a base by the loader, and then accepts connections and serves them. There is nothing where the base is not loaded, or the thread
-    /// that accepts is refused.
-    fn load_and_serve<
-        K: Receipts + Send + Drop,
-        R: Threads + Wait + Clock + Sync,
-        B: BaseSource + Drop,
-    >(
-        &self,
-        rt: &R,
-        alloc: Global,
-        destination: Destination<'a>,
-        from: Receiver<Connection, Global>,
-        mut base: B,
-        mut loader: SessionThread<P, L, K>,
-        threads: &mut [SessionThread<P, L, K>],
-    ) -> Option<(Ran<B>, SessionThread<P, L, K>)>
-        requires some { 0 < length threads.old }
-        requires loader { K.receipts loader.outcomes ≡ [] }
-        requires base { B.given base ≡ [] }
-        ensures heard { IfSome result
-            (λ got. AreHeard 1 (B.given got.0.base) (K.receipts got.1.outcomes)) }
-        ensures over { IfSome result (λ got. B.is_over got.0.base ≡ true) }
-        ensures count { IfSome result (λ got. got.0.loaded ≡ length (B.given got.0.base)) }
-    {
-        let loaded = loader.load(rt, alloc, self, &mut base);
-        self.is_loading.store(false, Ordering::SeqCst);
-        let loaded = loaded?;
-        let accepting = self.accept_and_serve(rt, alloc, destination, from, threads, loaded)?;
-        let ran = Ran {
-            base,
-            loaded,
-            accepting,
-            ended_there: 0,
-            trace_failure: None,
-        };
-        Some((ran, loader))
-    }
-
     /// Loads a base and serves connections, with these threads beside those of sessions. There is nothing where the base is not loaded, or
     /// a thread or memory was refused, and nothing was accepted.
     fn serve_connections<
@@ -278,8 +240,8 @@ impl<'a, P: Pseudo + Send, L: MadeWith<P> + Send + Sync> Service<'a, P, L> {
         keeper: Option<TraceKeeper<'_, '_, P, L>>,
         signal: S,
         operator: &Option<Operator<'_, '_, '_, '_, P, L, R, F>>,
-        base: B,
-        loader: SessionThread<P, L, K>,
+        mut base: B,
+        mut loader: SessionThread<P, L, K>,
         threads: &mut [SessionThread<P, L, K>],
         poll: Option<Poll>,
     ) -> Option<(Ran<B>, SessionThread<P, L, K>)>
@@ -313,10 +275,22 @@ impl<'a, P: Pseudo + Send, L: MadeWith<P> + Send + Sync> Service<'a, P, L> {
                 let is_short = service.start_beside(
                     rt, alloc, scope, ending, failure, keeper, signal, parking, operator,
                 );
-                let ran = if is_short {
+                let loaded = if is_short {
                     None
                 } else {
-                    service.load_and_serve(rt, alloc, destination, from, base, loader, threads)
+                    loader.load(rt, alloc, service, &mut base)
+                };
+                service.is_loading.store(false, Ordering::SeqCst);
+                let accepting = match loaded {
+                    Some(loaded) => service.accept_and_serve(
+                        rt,
+                        alloc,
+                        destination,
+                        from,
+                        threads,
+                        loaded,
+                    ),
+                    None => None,
                 };
                 if let Some(lobby) = service.lobby {
                     lobby.expect_no_more();
@@ -325,7 +299,14 @@ impl<'a, P: Pseudo + Send, L: MadeWith<P> + Send + Sync> Service<'a, P, L> {
                     operator.end();
                 }
                 ending.end(rt);
-                ran
+                let ran = Ran {
+                    base,
+                    loaded: loaded?,
+                    accepting: accepting?,
+                    ended_there: 0,
+                    trace_failure: None,
+                };
+                Some((ran, loader))
             },
         )?;
         let (ran, loader) = ran;

@@ -1,5 +1,5 @@
 use Rattle.std.proofs.Common.{rules, ◌≡◌, ◌∙◌, ℕ, IfSome, None, OnSome, Option, Some, ap, length, subst, sym, true}
-use Rattle.mlt_serve.proofs.service.fn.Service.serve_connections.scope.Goals.{then-is_short, in-None, in-Some-loaded, else-is_short}
+use Rattle.mlt_serve.proofs.service.fn.Service.serve_connections.scope.Goals.{then-is_short, in-None, in-Some, else-is_short}
 use Rattle.mlt_serve.proofs.service.fn.Service.serve_connections.scope.Goals as goal
 
 pub returns : goal.returns
@@ -7,7 +7,7 @@ returns g c =
     let is_over = g.B.BaseSource.is_over in
     let given = g.B.BaseSource.given in
     let same : c.match-loaded.loaded ≡ c.if-is_short.loaded = elim c.match-loaded.branch [
-      | in-Some-loaded v ↦ search (rules, v.loaded-is, v.in-Some-loaded)
+      | in-Some v ↦ search (rules, v.loaded-is, v.in-Some)
       | in-None v ↦ search (rules, v.loaded-is)
     ] in
     elim c.if-is_short.branch [
