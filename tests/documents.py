@@ -149,8 +149,8 @@ def the_map_of_the_crates_is_that_of_their_list(_mltx: Program) -> None:
     same(sorted(crates), sorted(folder.name for folder in (ROOT / "crates").iterdir()), "the folders of crates")
 
 
-def linked_libraries(kit: Path | None) -> set[str]:
-    """The libraries that `mltx` is linked from, without the standard library and what that alone uses. Without a kit, just
+def linked_libraries(kit: Path | None, crate: str = "mltx") -> set[str]:
+    """The libraries that a crate is linked from, without the standard library and what that alone uses. Without a kit, just
     those that rows of crates.txt name."""
     rows: dict[str, str] = dict(re.findall(r"(?m)^(\w+):(.*)$", (ROOT / "crates.txt").read_text()))
 
@@ -166,7 +166,7 @@ def linked_libraries(kit: Path | None) -> set[str]:
         return set(found)
 
     named = {it for row in rows.values() for it in row.split()}
-    return reached(["mltx"]) - (reached(["std"]) - named) - set(rows)
+    return reached([crate]) - (reached(["std"]) - named) - set(rows)
 
 
 @test
@@ -181,14 +181,18 @@ def edits_that_must_fail_are_counted(_mltx: Program) -> None:
 
 @test
 def each_library_that_is_trusted_is_named(_mltx: Program) -> None:
-    """THEOREM names just the libraries of the kit that the program is linked from: where a row of crates.txt, or such a library,
-    takes up another one, it fails. On a machine without the kit only the rows are read."""
+    """THEOREM names just the libraries of the kit that the program is linked from, and says on how many theorems rest: where a
+    row of crates.txt, or such a library, takes up another one, it fails. On a machine without the kit only the rows are read."""
     section = (ROOT / "docs/THEOREM.md").read_text().partition("## What one has to trust")[2].partition("\n## ")[0]
-    named, rt = set(re.findall(r"`(\w+)`", section)), shutil.which("rt")
-    linked = linked_libraries(Path(rt).resolve().parent.parent if rt else None)
+    named, rt = set(re.findall(r"`(\w+)`", section)) - {"run", "serve"}, shutil.which("rt")
+    kit = Path(rt).resolve().parent.parent if rt else None
+    linked = linked_libraries(kit)
     holds(linked <= named, f"THEOREM does not name {sorted(linked - named)}")
     if rt:
         same(sorted(named), sorted(linked), "the libraries that THEOREM names")
+        said = re.search(in_text("proves:") + r" (\d+) for the headline, (\d+) for `run`, (\d+) for `serve`", section)
+        rests = [linked_libraries(kit, crate) - {"libc"} for crate in ("mlt_manager", "mlt_work", "mlt_serve")]
+        same(said and said.groups(), tuple(str(len(those)) for those in rests), "how many each theorem rests on")
 
 
 @test
@@ -215,6 +219,16 @@ def lines_of_the_headline_are_counted(_mltx: Program) -> None:
     said = re.findall(r"\[(\d+)\s+(?:lines\s+of\s+definitions|more)\]\(docs/HEADLINE", readme)
     same(said, counts, "the lines in README")
     same(re.findall(r"(\d+)\s+lines", theorem), counts, "the lines in THEOREM")
+
+
+@test
+def the_theorem_is_short(_mltx: Program) -> None:
+    """The parts of HEADLINE have at most 220 and 130 lines, and it at most 5,000 words, so that it is read in an hour; THEOREM
+    has at most 2,000."""
+    counts = [int(count) for count in re.findall(r"(?m)^ +(\d+) lines$", output_of("headline-lines"))]
+    words = [len((ROOT / "docs" / page).read_text().split()) for page in ("HEADLINE.md", "THEOREM.md")]
+    longer = [(many, most) for many, most in zip(counts + words, (220, 130, 5_000, 2_000), strict=True) if many > most]
+    same(longer, [], "lines or words, and how many may be")
 
 
 def is_written_by(page: Path, tool: str, *words: str) -> None:
@@ -273,8 +287,10 @@ USES_HELPER = {f"IsBusy life = {IS_BUSY}": "IsBusy life = at_work life"}
 @each({
     "a-premise-is-shown": Change("mlt_manager/src/manager.rt", {ACT: f"{ACT}        requires never {{ 7 ≡ 8 }}\n"},
                                  "event: Event) -> Told // in part\n    requires never { 7 ≡ 8 }\n"),
-    "a-comment-is-shown-over-its-field": Change(RUNS, {COUNTED: "", "  pub outcomes :": f"{COUNTED}  pub outcomes :"},
-                                                f"{COUNTED}  pub outcomes :"),
+    "a-comment-is-shown-over-its-field": Change(RUNS, {COUNTED: "", "  pub base :": f"{COUNTED}  pub base :"},
+                                                f"{COUNTED}  base :"),
+    "a-comment-goes-with-its-field": Change(
+        RUNS, {COUNTED: "", "  pub outcomes :": f"{COUNTED}  pub outcomes :"}, "HasRunAll", COUNTED),
     "the-comment-of-a-field-that-is-left-out-is-not-shown": Change(
         RUNS, {"-- the manager has these limits": "-- LEFT OUT"}, "HasRunAll", "LEFT OUT"),
     "a-helper-is-named": Change(COURSES, {BUSY: f"-- is at something\n{HELPER}{BUSY}", **USES_HELPER},
@@ -339,8 +355,7 @@ def each_definition_that_counts_is_shown_once(_mltx: Program) -> None:
     """In each part of HEADLINE stand just the names that tools/headline-lines counts in it, each once in a block of its file, and
     as many lines, without comments: one that is left out, cut off or shown twice fails."""
     text, counted = (ROOT / "docs/HEADLINE.md").read_text(), output_of("headline-lines")
-    starts = {"rt": r"(?m)^(?:pub )?(?:enum|struct|fn) ([\w:]+)",
-              "antt": r"(?m)^(?:abbrev |unfoldable )?pub (?:record |data )?([^\s:]+)"}
+    starts = {"rt": r"(?m)^(?:enum|struct|fn) ([\w:]+)", "antt": r"(?m)^(?:(?:record|data) (?=\w)|(?=\w+ : ))(\w+)"}
     for title, rows, lines in re.findall(r"(?ms)^(Part [^\n]*):\n(.*?)^ +(\d+) lines$", counted):
         part = text.partition(f"\n## {title}\n")[2].partition("\n## ")[0]
         wanted = [(path, name) for path, names in re.findall(r"(?m)^ +\d+ (\S+): (.*)$", rows) for name in names.split()]

@@ -1,12 +1,12 @@
 -- What the pages mean is what the invariant says, in other words
 use Rattle.mlt_manager.proofs.Names.{zero, false≢true, Cell, Account, Element, Counter, Size, IsInRange, key_number, Base, state_at, Means, state_of_record, Page, Slot, bucket_of, IsRecordMap, live_records}
-use Rattle.std.proofs.Common.{suc, ◌≡◌, ◌<◌, ℕ, Bool, false, List, [], ◌∷◌, length, get_or, Option, None, Some, Contains, unwrap_or, ◌↔◌, refl, sym, ap, subst, ◌∙◌, arith, nat_cmp}
+use Rattle.std.proofs.Common.{suc, ◌≡◌, ◌<◌, ℕ, Bool, false, List, [], ◌∷◌, length, get_or, Option, None, Some, is_some, Contains, unwrap_or, ◌↔◌, refl, sym, ap, subst, ◌∙◌, arith, nat_cmp}
 use Rattle.std.specs.FinMap as map
-use Rattle.mlt_object_kinds.{specs.Bases.element_at, specs.Bases.size_at, specs.Cells.CellState, specs.Cells.CellState.AccountState, specs.Cells.CellState.ElementState, specs.Cells.CellState.CounterState, proofs.Sizes.size_below}
+use Rattle.mlt_object_kinds.{specs.Bases.counter_at, specs.Bases.element_at, specs.Bases.size_at, specs.Cells.CellState, specs.Cells.CellState.AccountState, specs.Cells.CellState.ElementState, specs.Cells.CellState.CounterState, proofs.Sizes.size_below}
 use Rattle.mlt_object_base.specs.Records.{counter_of_record}
 use Rattle.mlt_page.specs.{Values.BucketFields, declared.slot.Slot.TheVariants.Free, declared.slot.Slot.TheVariants.Live}
 use Rattle.mlt_hash_form.specs.File.{HasRecord, IsOnceLive}
-use Rattle.mlt_manager.specs.Headline.{HoldsIn, IsLiveAt, IsRecordOf, PagesMean}
+use Rattle.mlt_manager.specs.Headline.{IsLiveAt, IsRecordOf, PagesMean}
 
 -- ## A live slot is a record
 
@@ -59,18 +59,24 @@ abbrev value_in : CellState → ℕ
 value_in (CounterState value) = value
 value_in _ = 0
 
+abbrev HoldsCell : Base → Cell → Option ℕ → Type 0
+HoldsCell base (Account a) live = map.get base.accounts a ≡ live
+HoldsCell base (Element s e) live = element_at base s e ≡ is_some live
+HoldsCell base (Counter c) live = counter_at base c ≡ unwrap_or live 0
+HoldsCell base (Size s) live = size_at base s ≡ unwrap_or live 0
+
 counted : (live : Option ℕ) → counter_of_record live ≡ unwrap_or live 0
 counted None = refl
 counted (Some v) = refl
 
 module _ (base : Base) where
-  held : (cell : Cell) (live : Option ℕ) → state_at base cell ≡ state_of_record cell live → ((s : ℕ) → cell ≡ Size s → counter_of_record live ≡ size_at base s) → HoldsIn base cell live
+  held : (cell : Cell) (live : Option ℕ) → state_at base cell ≡ state_of_record cell live → ((s : ℕ) → cell ≡ Size s → counter_of_record live ≡ size_at base s) → HoldsCell base cell live
   held (Account a) live is sized = ap balance_in is
   held (Element s e) live is sized = ap presence_in is
   held (Counter c) live is sized = ap value_in is ∙ counted live
   held (Size s) live is sized = sym (sized s refl) ∙ counted live
 
-  state_held : (cell : Cell) (live : Option ℕ) → HoldsIn base cell live → state_at base cell ≡ state_of_record cell live
+  state_held : (cell : Cell) (live : Option ℕ) → HoldsCell base cell live → state_at base cell ≡ state_of_record cell live
   state_held (Account a) live holds = ap AccountState holds
   state_held (Element s e) live holds = ap ElementState holds
   state_held (Counter c) live holds = ap CounterState (holds ∙ sym (counted live))
@@ -83,7 +89,12 @@ module _ (base : Base) where
 
 -- **Where the records of clean pages mean a base, the pages do,**
 pub pages_mean : (pages : map.FinMap nat_cmp Page) (base : Base) → IsRecordMap (live_records pages) (map.get pages) → IsOnceLive (map.get pages) → Means (live_records pages) base → PagesMean pages base
-pages_mean pages base is_map once means = record { within = within; beyond = beyond }
+pages_mean pages base is_map once means = record {
+  accounts = λ a. (within (Account a), beyond (Account a));
+  counters = λ c. (within (Counter c), beyond (Counter c));
+  elements = λ s e. (within (Element s e), beyond (Element s e));
+  sizes = λ s. (within (Size s), beyond (Size s));
+}
   where
     records : map.FinMap nat_cmp ℕ
     records = live_records pages
@@ -92,7 +103,7 @@ pages_mean pages base is_map once means = record { within = within; beyond = bey
     size_told cell in_range s is =
         subst (λ (c : Cell). IsInRange c → counter_of_record (map.get records (key_number c)) ≡ size_at base s) (sym is) (means.sized s) in_range
 
-    within : (cell : Cell) → IsInRange cell → (live : Option ℕ) × IsRecordOf pages (key_number cell) live × HoldsIn base cell live
+    within : (cell : Cell) → IsInRange cell → (live : Option ℕ) × IsRecordOf pages (key_number cell) live × HoldsCell base cell live
     within cell in_range = (
       map.get records (key_number cell),
       record {
@@ -110,5 +121,5 @@ pages_mean pages base is_map once means = record { within = within; beyond = bey
         let out_there : IsInRange (Size s) → ⊥ = subst (λ (c : Cell). IsInRange c → ⊥) is out in
         sym (no_elements base s (λ e. ap presence_in (means.elsewhere (Element s e) (λ in_range. out_there in_range.0))))
 
-    beyond : (cell : Cell) → (IsInRange cell → ⊥) → HoldsIn base cell None
+    beyond : (cell : Cell) → (IsInRange cell → ⊥) → HoldsCell base cell None
     beyond cell out = held base cell None (means.elsewhere cell out) (none_told cell out)

@@ -18,6 +18,7 @@ pub mod Keeping
 pub mod Kept
 mod LeftBases
 mod ListedSlots
+pub mod Objects
 pub mod Others
 pub mod PassLocks
 pub mod Playing

@@ -10,7 +10,7 @@ use Rattle.mlt_trace_check.{specs.Writable.AreWritable, specs.Traces.IsAcceptedT
 use Rattle.mlt_order.specs.{Histories.IsCommitOrderSerializable, Runs.IsSerialBase}
 use Rattle.mlt_tx_meaning.specs.AbstractStates.{ledger_of}
 use Rattle.mlt_manager_invariant.specs.Traced.{IsCommittedBase}
-use Rattle.mlt_manager.{specs.Courses.KeepsPromiseOver, specs.Courses.course_of, proofs.CleanPages.pages_clean, proofs.Courses.alike, proofs.Courses.keeps_busy, proofs.Courses.stands_in, proofs.Headline.pages_mean, proofs.PassLocks.pass_locks, proofs.PassLocks.written_locks, proofs.Stepped.same_base}
+use Rattle.mlt_manager.{specs.Courses.KeepsPromiseOver, specs.Courses.committed_by, specs.Courses.course_of, proofs.CleanPages.pages_clean, proofs.Courses.alike, proofs.Courses.keeps_busy, proofs.Courses.stands_in, proofs.Headline.pages_mean, proofs.Objects.serial_does, proofs.Objects.undone_does, proofs.PassLocks.pass_locks, proofs.PassLocks.written_locks, proofs.Stepped.same_base}
 
 module _ {P : Type 0} (bits_of : P → ℕ → ℕ) (m : ManagerFields P) (h : IsManager bits_of m) where
   abbrev pages : map.FinMap nat_cmp Page
@@ -25,9 +25,10 @@ module _ {P : Type 0} (bits_of : P → ℕ → ℕ) (m : ManagerFields P) (h : I
   main_kept is_map once = record {
     serial = record {
       base = serial.0;
-      alone = serial.1;
+      alone = serial_does (committed_by m.shared.history.items) empty_base serial.0 serial.1;
       state = h.base;
-      taken_back = subst (λ f. UndoneTo Step serial.0 f h.base) (alike _ _ (λ tx. stands_in bits_of m h tx (map.get m.txs tx) refl)) serial.2;
+      taken_back = undone_does serial.0 h.base (course_of m).ops
+          (subst (λ f. UndoneTo Step serial.0 f h.base) (alike _ _ (λ tx. stands_in bits_of m h tx (map.get m.txs tx) refl)) serial.2);
     };
     clean = pages;
     put_back = pages_clean bits_of m h.images h.base h.sound;

@@ -17,8 +17,7 @@ use Rattle.mlt_manager.specs.{Answers.IsOpenAt, Managers.ManagerFields}
 abbrev pub HasBase : {P : Type 0} → ManagerFields P → Base → Type 0
 HasBase m base = IsHistory Step empty_base (entries_of m.shared.history.items) base
 
--- These pages are clean: of a page of which an open transaction keeps the first image, that image; any other page is that of
--- the store.
+-- the clean pages: each first image that is kept, and any other page as it is stored
 pub record HasCleanPages {P : Type 0} (m : ManagerFields P) (clean : map.FinMap nat_cmp Page)
     : Type 0 where
   pub put_back : (number : ℕ) (first : Option Page)

@@ -3,7 +3,7 @@ use Rattle.std.specs.Prelude.{ℕ, ◌≡◌, ◌≢◌, ◌+◌, ◌-◌, List,
 use Rattle.std.specs.Ordering.{nat_cmp}
 use Rattle.std.specs.FinMap as map
 use Rattle.mlt_types.specs.declared.refusal.Refusal.{Refusal, TheVariants.IdsSpent, TheVariants.LogFull, TheVariants.NoRoom, TheVariants.OutOfMemory, TheVariants.TooManyOpen}
-use Rattle.mlt_object_kinds.specs.{Bases.Base, Bases.Step, Bases.empty_base, declared.operation.ObjOp.ObjOp, declared.operation.ObjReply.ObjReply}
+use Rattle.mlt_object_kinds.specs.{Bases.Base, Bases.empty_base, declared.operation.ObjOp.ObjOp, declared.operation.ObjReply.ObjReply}
 use Rattle.mlt_order.specs.{Interleavings.UndoneTo, Runs.IsSerialBase, Tables.table_with}
 use Rattle.mlt_event.specs.declared.answer.Answer.TheVariants.{Going, Waiting, Blocked, Done, Undone, Aborted, Refused}
 use Rattle.mlt_event.specs.declared.{event.Event.Event, told.Told.Told}
@@ -13,14 +13,13 @@ use Rattle.mlt_order.specs.Histories.{lists_of}
 use Rattle.mlt_trace.specs.{Entries.entries_of, declared.item.TraceItem.TraceItem}
 use Rattle.mlt_page.specs.declared.page.Page.{Page}
 use Rattle.mlt_tx.specs.{Tables.KeepsImage, declared.transaction.At.At, declared.transaction.Transaction.Transaction}
-use Rattle.mlt_manager.specs.{Bases.HasCleanPages, Headline.PagesMean, Managers.ManagerFields}
+use Rattle.mlt_manager.specs.{Bases.HasCleanPages, Headline.PagesMean, Managers.ManagerFields, Objects.Does}
 
--- operations of one transaction, in order, each with the reply that it was told
+-- operations of a transaction, with the replies that it was told
 abbrev pub Ops : Type 0
 Ops = List (ObjOp × ObjReply)
 
--- What the transaction of a number is at: it has not begun, or has ended; it is open, with nothing pending; this operation is
--- pending; or its abort has begun.
+-- what a transaction is at: `NotOpen` before its begin and behind its end
 pub data Life : Type 0 where
   NotOpen : Life
   Idle : Life
@@ -31,24 +30,22 @@ pub data Life : Type 0 where
 abbrev pub IsBusy : Life → Type 0
 IsBusy life = (life ≢ NotOpen) × (life ≢ Idle)
 
--- The course of transactions: how many have begun; what each did that committed, in the order of the commits; and under each
--- number what its transaction is at, and what it did and has not taken back, while it is open.
+-- how many have begun; what those did that committed, in that order; what each is at; what it did, if open, and has not taken back
 pub record Course : Type 0 where
   pub begun : ℕ
   pub committed : List Ops
   pub life : ℕ → Life
   pub ops : ℕ → Ops
 
--- nothing has begun
 abbrev pub opening_course : Course
 opening_course = record { begun = 0; committed = []; life = λ tx. NotOpen; ops = λ tx. [] }
 
--- The transaction turns from one life to another, and has these operations from then on. All else stays.
+-- the transaction turns from one life to another, and has these operations then
 abbrev pub Turns : Course → ℕ → Life → Life → Ops → Course → Type 0
 Turns c tx from to ops d =
     (c.life tx ≡ from) × (d ≡ record c { life = table_with c.life tx to; ops = table_with c.ops tx ops })
 
--- why an event is refused where its transaction is at this, and the event is for what another is at
+-- why an event is refused that is for another life
 abbrev pub reason_at : Life → Event → Refusal
 reason_at NotOpen event = Refusal.NoSuchTx
 reason_at Idle event = Refusal.NotRunning
@@ -61,8 +58,7 @@ abbrev pub MayRefuseCall : Life → Event → Refusal → Type 0
 MayRefuseCall Idle event reason = Contains (LogFull ∷ OutOfMemory ∷ []) reason
 MayRefuseCall life event reason = reason ≡ reason_at life event
 
--- Where an event may be refused, and why: where its transaction is not at what the event is for. A begin, and a call of an idle
--- transaction, may be refused for want of memory or by a limit.
+-- where an event may be refused, and why
 abbrev pub MayRefuse : Course → Event → Refusal → Type 0
 MayRefuse c Event.Begin reason = Contains (TooManyOpen ∷ IdsSpent ∷ OutOfMemory ∷ []) reason
 MayRefuse c (Event.Call tx op) reason = MayRefuseCall (c.life tx) (Event.Call tx op) reason
@@ -73,19 +69,17 @@ MayRefuse c (Event.Abort tx) reason = (c.life tx ≢ Idle) × (reason ≡ reason
 MayRefuse c (Event.Whole tx op) reason = MayRefuseCall (c.life tx) (Event.Whole tx op) reason
 MayRefuse c (Event.WholeUndo tx) reason = (c.life tx ≢ Undoing) × (reason ≡ reason_at (c.life tx) (Event.WholeUndo tx))
 
--- What an event that was told this makes of the course. No event is told anything else.
+-- what an event that was told this makes of the course
 abbrev pub Tells : Course → Event → Told → Course → Type 0
 Tells c Event.Begin (Begun tx) d = (tx ≡ c.begun + 1) × Turns (record c { begun = tx }) tx NotOpen Idle [] d
 Tells c (Event.Call tx op) Called d = Turns c tx Idle (Pending op) (c.ops tx) d
 Tells c (Event.Step tx) (Answered Going) d = IsBusy (c.life tx) × (d ≡ c)
 Tells c (Event.Step tx) (Answered (Waiting page by)) d = IsBusy (c.life tx) × (d ≡ c)
--- a pending operation is blocked and stays pending, is done, or is dropped
 Tells c (Event.Step tx) (Answered (Blocked by)) d = (op : ObjOp) × (c.life tx ≡ Pending op) × (d ≡ c)
 Tells c (Event.Step tx) (Answered (Done reply)) d =
     (op : ObjOp) × Turns c tx (Pending op) Idle (c.ops tx ++ (op, reply) ∷ []) d
 Tells c (Event.Step tx) (Answered (Refused reason)) d =
     Contains (NoRoom ∷ OutOfMemory ∷ []) reason × ((op : ObjOp) × Turns c tx (Pending op) Idle (c.ops tx) d)
--- an abort takes the last operation back: others are left, or it was the only one
 Tells c (Event.Step tx) (Answered Undone) d =
     (left : Ops) × (last : ObjOp × ObjReply) × (c.ops tx ≡ left ++ last ∷ []) × (left ≢ []) × Turns c tx Undoing Undoing left d
 Tells c (Event.Step tx) (Answered Aborted) d =
@@ -100,15 +94,13 @@ Tells c (Event.Whole tx op) (Answered (Waiting page by)) d = (c.life tx ≡ Idle
 Tells c (Event.Whole tx op) (Answered (Blocked by)) d = (c.life tx ≡ Idle) × (d ≡ c)
 Tells c (Event.Whole tx op) (Answered (Refused reason)) d =
     Contains (NoRoom ∷ OutOfMemory ∷ []) reason × (c.life tx ≡ Idle) × (d ≡ c)
--- a whole undoing takes the last operations back, up to one that waits, or all
 Tells c (Event.WholeUndo tx) (Answered (Waiting page by)) d =
     (left : Ops) × (back : Ops) × (c.ops tx ≡ left ++ back) × (left ≢ []) × Turns c tx Undoing Undoing left d
 Tells c (Event.WholeUndo tx) (Answered Aborted) d = Turns c tx Undoing NotOpen [] d
 Tells c event (Refused reason) d = MayRefuse c event reason × (d ≡ c)
 Tells c event other d = ⊥
 
--- What an event that was told this adds to the history: that a transaction begins, does an operation, takes one back, commits or is
--- closed.
+-- what an event that was told this adds to the history
 abbrev pub AddsItems : Course → Event → Told → Course → List TraceItem → Type 0
 AddsItems c Event.Begin (Begun tx) d items = items ≡ TraceItem.Begin tx ∷ []
 AddsItems c (Event.Step tx) (Answered (Done reply)) d items =
@@ -118,7 +110,6 @@ AddsItems c (Event.Step tx) (Answered Aborted) d items = items ≡ TraceItem.Bac
 AddsItems c (Event.Commit tx) (Committed number) d items = items ≡ TraceItem.Commit tx number ∷ []
 AddsItems c (Event.Abort tx) (Aborting true) d items = items ≡ TraceItem.Abort tx ∷ []
 AddsItems c (Event.Whole tx op) (Answered (Done reply)) d items = items ≡ TraceItem.Op tx (op, reply) ∷ []
--- an item for each operation that is taken back
 AddsItems c (Event.WholeUndo tx) (Answered (Waiting page by)) d items =
     items ≡ replicate (length (c.ops tx) - length (d.ops tx)) (TraceItem.Back tx)
 AddsItems c (Event.WholeUndo tx) (Answered Aborted) d items =
@@ -163,16 +154,14 @@ course_of m = record {
   ops = λ tx. ops_in (map.get m.txs tx);
 }
 
--- A course is serializable: what committed, run alone in the order of the commits from the empty base, with the replies that it
--- was told, leads to `base`; and from that the operations of open transactions lead to `state`, in every order in which they may
--- be done, so `base` is what is left when they are taken back.
+-- what committed leads, in the order of the commits, to `base`; from there what open ones did leads, in every order, to `state`
 pub record IsSerializable (c : Course) : Type 0 where
   pub base : Base
-  pub alone : IsSerialBase Step empty_base c.committed base
+  pub alone : IsSerialBase Does empty_base c.committed base
   pub state : Base
-  pub taken_back : UndoneTo Step base c.ops state
+  pub taken_back : UndoneTo Does base c.ops state
 
--- what events that were told these make of the course and add to the history, one after another
+-- the same of a list of events
 abbrev pub TellsAll : Course → List Event → List Told → Course → List TraceItem → Type 0
 TellsAll c [] [] d items = (d ≡ c) × (items ≡ [])
 TellsAll c (event ∷ events) (told ∷ tolds) d items =
@@ -180,8 +169,7 @@ TellsAll c (event ∷ events) (told ∷ tolds) d items =
     × (later : List TraceItem) × (items ≡ here ++ later) × TellsAll next events tolds d later
 TellsAll c events tolds d items = ⊥
 
--- The main promise. The course is serializable. The pages, with the first images of running subtransactions put back, mean its
--- `state`; and of a transaction that keeps a first image an operation is pending, or the abort has begun.
+-- the pages, with first images put back, mean the `state` to which the course leads
 pub record KeepsPromiseOver {P : Type 0} (c : Course) (m : ManagerFields P) : Type 0 where
   pub serial : IsSerializable c
   pub clean : map.FinMap nat_cmp Page

@@ -8,6 +8,7 @@ pub mod HandingOut
 pub mod Headline
 pub mod Images
 pub mod Managers
+pub mod Objects
 pub mod Openings
 pub mod Parts
 pub mod PassLocks

@@ -47,16 +47,18 @@ pub record MatchesHistory {P : Type 0} (m : ManagerFields P) : Type 0 where
   pub held : (i : ℕ) → items_of i m.shared.objects.held ≡ (lists_by m).held i
   pub page_locks : AreCompatible m.shared.pages.locks
 
--- The main promise, and what else is promised. The clean pages are an extendible hash file with records that the cells can
--- have, in which removals of open transactions have their ghosts. A running operation holds the page locks of its pass, and
--- nobody else holds any. Who is open, what may be taken back and what is held is what the history says.
+-- the main promise, and what else is promised
 pub record KeepsPromises {P : Type 0} (bits_of : P → ℕ → ℕ) (m : ManagerFields P) : Type 0 where
   pub main : KeepsPromiseOver (course_of m) m
+  -- The clean pages are an extendible hash file with records that the cells can have, in which removals of open transactions
+  -- have their ghosts.
   pub file : IsExtendibleHashFile (bits_of m.root.pseudo) m.active (map.get main.clean) m.root.page
   pub can_be : (cell : Cell) → IsInRange cell
       → IsRecord cell (map.get (live_records main.clean) (key_number cell))
   pub ghosts : GhostsAreKept (ledger_by bits_of m main.clean)
+  -- a running operation holds the page locks of its pass, and nobody else holds any
   pub locks : (i : ℕ) → HoldsLocksOfItsPass bits_of m (map.get main.clean) i
+  -- who is open, what may be taken back and what is held is what the history says
   pub history : MatchesHistory m
   pub begun : AreBegunInOrder m.shared.history.items
   pub commits : AreCounted m.shared.history.items
@@ -66,7 +68,7 @@ pub record IsCommittedBaseOf {P : Type 0} (m : ManagerFields P) (base : Base) : 
   pub serial : IsSerialBase Step empty_base (lists_by m).committed base
   pub undone : (state : Base) → HasBase m state → UndoneTo Step base (lists_by m).transcripts state
 
--- the text of the history is an accepted trace, with the committed order and the base of what is committed
+-- the text of the history is an accepted trace
 pub record PassesTheChecker {P : Type 0} (m : ManagerFields P) : Type 0 where
   pub base : Base
   pub accepted : IsAcceptedTrace (trace_text m.shared.history.items)
