@@ -1,8 +1,8 @@
 """Part one of docs/HEADLINE.md as a program: which answers, and which base after them, the main theorem allows.
 
-It is read off that page alone, in its order and by its names. A relation is a function that finds all that stand in it, so
-`Step b item d` is `d in step(b, item)`. An object is an account, a set or a counter: operations on two of them have nothing to
-do with each other, so bases are compared object by object. Of the pages `steps` prints what they mean: the base."""
+It is read off that page alone, by its names. `account`, `element` and `counter` are its functions. A relation is a function that
+finds all that stand in it, so `Does b item d` is `d in does(b, item)`. An object is an account, a set or a counter: operations on
+two of them have nothing to do with each other, so bases are compared object by object. Of the pages `steps` prints the base."""
 from collections.abc import Iterator, Mapping, Sequence
 from functools import lru_cache
 from typing import Any, NamedTuple
@@ -25,7 +25,7 @@ REASONS = (
     "OutOfMemory NoRoom NoSuchTx Undoing Running NotRunning TooManyOpen LogFull IdsSpent ScriptFault TraceFault Io Audit GaveUp"
 ).split()
 
-# Objects, bases, and steps of them.
+# Bases and steps.
 
 
 def account(op: str, n: int, b: int | None) -> tuple[str, int | None]:
@@ -65,7 +65,7 @@ def empty(it: Object) -> Held:
     return {"account": None, "set": frozenset[int](), "counter": 0}[it[0]]
 
 
-def step(held: Held, item: Item) -> list[Held]:
+def does(held: Held, item: Item) -> list[Held]:
     (word, _, *rest), reply = item
     n, after = rest[0] if rest else 0, held
     if isinstance(held, frozenset) and word == "size":
@@ -80,25 +80,19 @@ def step(held: Held, item: Item) -> list[Held]:
     return [after] if told == reply else []
 
 
-def runs(held: Held, items: Ops) -> list[Held]:
-    for item in items:
-        found = step(held, item)
-        if not found:
-            return []
-        held = found[0]
-    return [held]
-
-
 @lru_cache(maxsize=100_000)
 def ends(held: Held, lists: tuple[Ops, ...]) -> frozenset[Held]:
     """Where the interleavings of these lists lead; nowhere where one of them leads nowhere."""
     if len(lists) < 2:
-        return frozenset(runs(held, lists[0] if lists else ()))
+        values = [held]
+        for item in lists[0] if lists else ():
+            values = [after for value in values for after in does(value, item)]
+        return frozenset(values)
     found = set[Held]()
     for place, items in enumerate(lists):
         others = lists[:place] + lists[place + 1 :]
         before = ends(held, tuple(sorted((*others, items[:-1]))) if items[1:] else others)
-        after = [step(value, items[-1]) for value in before]
+        after = [does(value, items[-1]) for value in before]
         if not after or [] in after:
             return frozenset()
         found.update(value for values in after for value in values)
@@ -209,7 +203,7 @@ def alone(committed: tuple[Ops, ...]) -> Base | None:
     base = dict(before)
     for item in committed[-1] if committed else ():
         it = object_of(item[0])
-        found = step(base.get(it, empty(it)), item)
+        found = does(base.get(it, empty(it)), item)
         if not found:
             return None
         base[it] = found[0]
