@@ -435,10 +435,10 @@ def numbers_of_an_operator_are_told_of(mltx: Program) -> None:
     with mltx.serve("--endless", limit=None, admin=admin) as server:
         server.connect().ask("quit")
         told = {path: urlopen("http://%s:%d/%s" % (*admin, path)).read().decode() for path in ("status", "metrics")}
-    rows = re.findall(r"(?m)^\| ([^|]*) \| ([^|]*mltx_[^|]*|) ?\| [^|]* \|$", page)
+    rows = re.findall(r"(?m)^\| ([^|]*) \| ([^|]*(?:mltx|process)_[^|]*|) ?\| [^|]* \|$", page)
     same([name for cell, _ in rows for name in re.findall(r"`(\w+)`", cell)], list(json.loads(told["status"])), "the numbers")
     named = [name for _, cell in rows for name in re.findall(r"`(\w+)`", cell)]
-    same(named, re.findall(r"(?m)^# TYPE (mltx_\w+) ", told["metrics"]), "the metrics")
+    same(sorted(named), sorted(re.findall(r"(?m)^# TYPE (\w+) ", told["metrics"])), "the metrics")
     readers = "".join((ROOT / "contrib" / name).read_text() for name in ("alerts.yml", "dashboard.json"))
     read = {name.removesuffix("_bucket") for name in re.findall(r"\bmltx_\w+", page + readers)}
     same(read - set(named), set(), "names that no metric has")

@@ -3,7 +3,9 @@ import errno
 import http.client
 import itertools
 import json
+import os
 import re
+import resource
 import signal
 import socket
 import subprocess
@@ -12,6 +14,7 @@ import time
 from collections.abc import Callable, Iterator
 from concurrent.futures import ThreadPoolExecutor
 from contextlib import ExitStack, contextmanager, suppress
+from pathlib import Path
 from typing import Any
 
 from harness import BY_OPERATOR, PATIENCE, ROOT, STOPS, Failed, Peer, Program, Server, cut_for, each, expect, free_address, holds
@@ -112,7 +115,7 @@ def status_of_a_server_without_clients(mltx: Program) -> None:
     with operated(mltx, "--sessions", 5, limit=77) as server:
         comes(server, "/status", lambda told: told["session_threads"] == 5, "all session threads run")
         told = asked(server, "/status")
-        same(list(told), [NUMBERS[0], "version", "address", *NUMBERS[1:], *TIMES], "the names")
+        same(list(told), [NUMBERS[0], "version", "address", *NUMBERS[1:], "memory", *TIMES], "the names")
         holds(all(type(told[name]) is int for name in NUMBERS), f"{told}")
         same((told["version"], told["address"]), (version(mltx), "%s:%d" % server.address), "the program, and where it listens")
         no_times = {"bounds": BOUNDS, "counts": 18 * [0], "microseconds": 0}
@@ -304,11 +307,15 @@ STATUS_TEXT = (
     '"sessions":6,"session_threads":7,"queued":0,"parked":0,"connections":8,"refused":0,"limit":77,"open":5,'
     '"begun":24,"most_begun":4294967296,"operations":14,"commits":10,"aborts":9,"gave_up":3,"deadlocks":2,"no_room":0,'
     '"events":EVENTS,"items":59,"bytes":3744,"pages":4,"most_pages":65793,"depth":1,"room":524288,"trace":0,'
-    '"trace_failed":0,"saves":0,"loading":0,"stopping":0,"transaction_times":TIMES,"wait_times":TIMES,"queue_times":TIMES}\n'
+    '"trace_failed":0,"saves":0,"loading":0,"stopping":0,"memory":MEMORY,'
+    '"transaction_times":TIMES,"wait_times":TIMES,"queue_times":TIMES}\n'
 )
 TIMES_TEXT = f'{{"bounds":[{",".join(map(str, BOUNDS))}],"counts":[COUNTS],"microseconds":SUM}}'
 
 METRICS_TEXT = """\
+# HELP mltx_build_info The version of the program, its commit where that is known, and whether it is proved.
+# TYPE mltx_build_info gauge
+BUILD
 # HELP mltx_server A number that the server drew at random when it started.
 # TYPE mltx_server gauge
 mltx_server SERVER
@@ -469,9 +476,12 @@ def numbers_as_texts(mltx: Program) -> None:
     status_text = STATUS_TEXT.replace("TIMES", re.sub("COUNTS|SUM", "N", TIMES_TEXT))
     json_text = re.sub(rb'("counts":\[)[0-9,]+(\],"microseconds":)[0-9]+', rb"\1N\2N", json_text)
     status_text = status_text.replace("VERSION", version(mltx)).replace("ADDRESS", "%s:%d" % server.address)
+    status_text = status_text.replace("MEMORY", str(told["memory"]))
     metrics_wanted = METRICS_TEXT.replace("TRANSACTION_TIMES", histogram_text("transaction", transactions))
     metrics_wanted = metrics_wanted.replace("WAIT_TIMES", histogram_text("wait", waits))
-    metrics_wanted = metrics_wanted.replace("QUEUE_TIMES", histogram_text("queue", queues))
+    metrics_wanted = metrics_wanted.replace("QUEUE_TIMES", histogram_text("queue", queues)).replace("BUILD", build_info(mltx))
+    metrics_text = metrics_text.partition(b"# HELP process_")[0]
+    json_text = re.sub(rb'("memory":)[0-9]+', rb"\g<1>%d" % told["memory"], json_text)
     for name, body, text in (("/status", json_text, status_text), ("/metrics", metrics_text, metrics_wanted)):
         found = match('("seconds":|\nmltx_uptime_seconds )([0-9]+)', body.decode())
         holds(told["seconds"] <= int(found[2]) <= most_seconds, f"{name} tells {found} as seconds")
@@ -479,6 +489,56 @@ def numbers_as_texts(mltx: Program) -> None:
         for word, number in (("EVENTS", "events"), ("SERVER", "server")):
             wanted = wanted.replace(word, str(told[number]))
         same((body.decode().splitlines(), body[-1:]), (wanted.splitlines(), b"\n"), name)
+
+
+def build_info(mltx: Program) -> str:
+    """What the metrics tell of a program of this version."""
+    number, commit = match(r"^([0-9.]+)(?: \((?:([0-9a-f]{12}\+?)(?:, )?)?(?:not proved)?\))?$", version(mltx)).groups(default="")
+    proved = "no" if "not proved" in version(mltx) else "yes"
+    return f'mltx_build_info{{version="{number}",commit="{commit}",proved="{proved}"}} 1'
+
+
+@test(seconds=1)
+def process_as_prometheus_names_it(mltx: Program) -> None:
+    """What the metrics tell of the process is what the system does."""
+    kinds = {
+        "process_cpu_seconds_total": "counter",
+        **dict.fromkeys(("process_virtual_memory_bytes", "process_resident_memory_bytes", "process_open_fds"), "gauge"),
+        **dict.fromkeys(("process_max_fds", "process_start_time_seconds"), "gauge"),
+    }
+    began = time.time()
+    with operated(mltx, "--sessions", 8) as server:
+        resource.prlimit(server.process.pid, resource.RLIMIT_NOFILE, (345, 345))
+        comes(server, "/status", lambda told: told["session_threads"] == 8, "all session threads run")
+        folder = Path(f"/proc/{server.process.pid}")
+        before = process_of(folder)
+        text = answer(server, "/metrics")[2].decode()
+        after = process_of(folder)
+        memory = asked(server, "/status")["memory"]
+    told = {name: float(match(rf"(?m)^{name} ([0-9.]+)$", text)[1]) for name in kinds}
+    for name, kind in kinds.items():
+        match(rf"(?m)^# HELP {name} \w.*\n# TYPE {name} {kind}\n{name} ", text)
+    for name in ("process_cpu_seconds_total", "process_virtual_memory_bytes", "process_resident_memory_bytes"):
+        least, most = sorted((before[name], after[name]))
+        holds(0.9 * least <= told[name] <= 1.1 * most, f"{name} is {told[name]}, and the system says {least} and then {most}")
+    resident = told["process_resident_memory_bytes"]
+    holds(0.5 * resident < memory < 2 * resident, f"the memory is {memory}, and then {resident}")
+    # A connection, with what was opened for it, is the operator's.
+    open_before = before["process_open_fds"]
+    holds(open_before <= told["process_open_fds"] <= open_before + 3, f"{told}, and before {open_before} descriptors")
+    same(told["process_max_fds"], 345, "the descriptors that there can be")
+    holds(began - 1 <= told["process_start_time_seconds"] <= began + SLACK, f"it began at {told}, and not at {began}")
+
+
+def process_of(folder: Path) -> dict[str, float]:
+    """What the system says of a process, under the names of metrics."""
+    fields = (folder / "stat").read_text().rpartition(")")[2].split()
+    return {
+        "process_cpu_seconds_total": (int(fields[11]) + int(fields[12])) / os.sysconf("SC_CLK_TCK"),
+        "process_virtual_memory_bytes": int(fields[20]),
+        "process_resident_memory_bytes": int(fields[21]) * resource.getpagesize(),
+        "process_open_fds": len(os.listdir(folder / "fd")),
+    }
 
 
 def wait(waiter: int, client: int, holder: int, why: str, operation: str) -> Row:
@@ -996,7 +1056,7 @@ def server_is_stopped_as_systemd_does(mltx: Program) -> None:
 def server_with_few_descriptors(mltx: Program) -> None:
     """It serves a client and answers its operator at the same time, or does not start."""
     limited, starts = mltx.folder / "limited", list[int]()
-    for most in range(6, 15):
+    for most in range(6, 18):
         limited.write_text(f'#!/bin/sh\nulimit -n {most}\nexec {mltx.path} "$@"\n')
         limited.chmod(0o755)
         options = ("-v", "--endless", "--trace", "trace", "--save", "saved")
@@ -1009,7 +1069,7 @@ def server_with_few_descriptors(mltx: Program) -> None:
             with takes(0, SLACK, f"both answers of a server with {most} descriptors"), server.connect() as peer:
                 says(peer, "begin", "begun 1")
                 same(counts(server, "sessions"), {"sessions": 1}, f"what an operator is told of a server with {most} descriptors")
-    holds(starts and set(starts) == set(range(starts[0], 15)) and starts[0] > 8, f"it starts with {starts} descriptors")
+    holds(starts and set(starts) == set(range(starts[0], 18)) and starts[0] > 8, f"it starts with {starts} descriptors")
 
 
 def uses_memory_up(peer: Peer) -> None:

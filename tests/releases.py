@@ -15,6 +15,7 @@ import time
 from collections.abc import Callable
 from pathlib import Path
 from subprocess import PIPE
+from urllib.request import urlopen
 
 from harness import PATIENCE, ROOT, VERSION, Program, each, free_address, holds, match, same, test
 
@@ -96,6 +97,26 @@ def release_is_one_archive(mltx: Program) -> None:
     same((found / "GATE").read_text(), "\n".join([*rows, "", clone.log.read_text()]), "the record of the gate")
     ran = subprocess.run([found / "bin/mltx", "tables"], capture_output=True)
     same((ran.stdout, ran.returncode), (mltx.run("tables").out, 0), f"what the program does: {ran.stderr!r}")
+    told = subprocess.run([found / "bin/mltx", "--version"], capture_output=True, text=True).stdout
+    same(told, f"mltx {VERSION} ({clone.commit[:12]})\n", "the version")
+
+
+@test(seconds=1)
+def server_of_a_release_tells_its_commit(mltx: Program) -> None:
+    """As its metrics and its page have it."""
+    clone = Clone(mltx)
+    found, admin = clone.unpacked(mltx.folder / "made"), "%s:%d" % free_address()
+    words = [found / "bin/mltx", "serve", "%s:%d" % free_address(), "--admin", admin]
+    with subprocess.Popen(words, stderr=PIPE, text=True) as process:
+        try:
+            assert process.stderr
+            holds("listening" in process.stderr.readline() and "admin" in process.stderr.readline(), "the server begins")
+            paths = ("status", "metrics")
+            status, metrics = [urlopen(f"http://{admin}/{path}", timeout=PATIENCE).read().decode() for path in paths]
+        finally:
+            process.kill()
+    holds(f' ({clone.commit[:12]})"' in status, f"the version in {status}")
+    match(rf'(?m)^mltx_build_info{{version="{VERSION}",commit="{clone.commit[:12]}",proved="(yes|no)"}} 1$', metrics)
 
 
 def is_changed(clone: Clone) -> None:

@@ -229,6 +229,33 @@ def proved_program_is_run_where_there_is_one(mltx: Program) -> None:
     same(tree.asked(), "", "what rt is asked")
 
 
+@test
+def proved_program_of_a_commit(mltx: Program) -> None:
+    """Its version has the commit of its sources, and so has what is installed, but not where they differ from it."""
+    tree = Tree(mltx)
+    tree.env |= {f"GIT_{role}_{part}": "a" for role in ("AUTHOR", "COMMITTER") for part in ("NAME", "EMAIL")}
+
+    def git(*words: str) -> str:
+        return subprocess.run(["git", *words], cwd=tree.top, env=tree.env, check=True, capture_output=True, text=True).stdout
+
+    (tree.top / ".gitignore").write_text("out\n")
+    for words in (["init", "-q"], ["add", "."], ["commit", "-qm", "all"]):
+        git(*words)
+    commit = git("rev-parse", "HEAD")[:12]
+    tree.run("solo")
+    expect(tree.run("--version"), out=f"mltx {VERSION} ({commit}, not proved)\n")
+    tree.prove()
+    expect(tree.run("--version"), out=f"mltx {VERSION} ({commit})\n")
+    made = str(mltx.folder / "prefix")
+    same(tree.run("install", made).status, 0, "the installation")
+    told = subprocess.run([f"{made}/bin/mltx", "--version"], capture_output=True, env=tree.env).stdout
+    same(told, f"mltx {VERSION} ({commit})\n".encode(), "the version of what is installed")
+    source = tree.top / "crates/mlt_cli/src/commands.rt"
+    source.write_text(source.read_text() + "// More.\n")
+    make_old(source, 100)
+    expect(tree.run("--version"), out=f"mltx {VERSION}\n")
+
+
 # Of each changed file: whether the proved program is old then, and whether the unproved one is.
 CHANGED = {
     "code": ("crates/mlt_cli/src/commands.rt", True),

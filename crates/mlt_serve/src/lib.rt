@@ -27,6 +27,7 @@ mod threads_beside;
 mod trace_keeping;
 
 pub use endless::{ServedEndless, serve_endless};
+pub use mlt_serve_admin::{Build, ProcessFiles};
 pub use operating::{
     Admin, BaseFile, BaseSource, EndSignal, LoadFailure, NoBase, NoBaseFile, NoSignal, Operating,
     Piece, TraceFile,

@@ -4,6 +4,7 @@ ghost use Rattle.std.specs.Prelude.{◌≡◌, ◌++◌, ◌∷◌, [], Bool, Li
 ghost use Rattle.mlt_serve.specs.declared.operating.Piece.{Piece as GivenPiece};
 
 use mlt_object_base::Base;
+use mlt_serve_admin::{Build, ProcessFiles};
 use mlt_types::Refusal;
 use std::alloc::Global;
 use std::hash::RandomState;
@@ -139,6 +140,8 @@ pub struct Admin<'a> {
     pub keys: RandomState,
     /// The number of the server.
     pub number: u64,
-    /// The version of the program.
-    pub version: &'static str,
+    /// Of what build the program is.
+    pub build: Build,
+    /// Where the system tells of its process.
+    pub process: &'a ProcessFiles,
 }

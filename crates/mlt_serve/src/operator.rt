@@ -168,7 +168,7 @@ impl<'a, 'b, 'c, 'd, P: Pseudo, L: MadeWith<P>, R: Wait + Clock, F: BaseFile> Op
         let items = statistics.items as u64;
         Counts {
             server: self.admin.number,
-            version: self.admin.version,
+            build: self.admin.build,
             address: door.address(),
             seconds: milliseconds(self.since, now) / 1_000,
             sessions,
@@ -192,6 +192,7 @@ impl<'a, 'b, 'c, 'd, P: Pseudo, L: MadeWith<P>, R: Wait + Clock, F: BaseFile> Op
             can_save: self.save.is_some(),
             is_loading: self.service.is_loading.load(Ordering::SeqCst),
             is_stopping: door.stops(),
+            process: self.admin.process.figures(),
         }
     }
 

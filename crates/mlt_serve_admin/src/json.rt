@@ -66,10 +66,12 @@ impl Serialize for Counts {
         out.begin_map(None)?;
         all_numbers(server, out)?;
         out.key("version")?;
-        out.str(self.version)?;
+        out.collect_str(&self.build)?;
         out.key("address")?;
         text_or_null(&self.address, out)?;
         all_numbers(others, out)?;
+        out.key("memory")?;
+        self.process.resident.serialize(out)?;
         out.key("transaction_times")?;
         Times::of(&self.totals.transaction_times).serialize(out)?;
         out.key("wait_times")?;

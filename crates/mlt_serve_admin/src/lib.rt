@@ -11,6 +11,7 @@ mod listing;
 mod metrics;
 mod operated;
 mod page;
+mod process;
 mod replies;
 mod resources;
 mod routes;
@@ -19,6 +20,7 @@ mod serving;
 mod view;
 
 pub use operated::Operated;
+pub use process::{Build, ProcessFigures, ProcessFiles};
 pub use serving::serve_admin;
 pub use view::{
     Counts, NotSaved, ObjectView, ObjectsView, ServerView, SessionView, TransactionView,

@@ -1,5 +1,6 @@
 //! The numbers of a server, in the text format of Prometheus, version 0.0.4.
 
+use crate::process::{push_build, push_process};
 use crate::view::Counts;
 use mlt_serve_connections::{BOUNDS, Histogram};
 use std::alloc::{AllocError, Global};
@@ -73,16 +74,35 @@ pub(crate) fn numbers(counts: &Counts) -> [Number; 30] {
 pub(crate) fn metrics_text(alloc: Global, counts: &Counts) -> Result<String, AllocError> {
     let mut text = String::new(alloc);
     let totals = &counts.totals;
+    push_build(&mut text, &counts.build)?;
     for number in &numbers(counts) {
         push_number(&mut text, number)?;
     }
     let words = "Seconds from the answer to begin to the end of the transaction.";
-    push_times(&mut text, "transaction", words, &totals.transaction_times)?;
+    push_times(
+        &mut text,
+        "transaction_seconds",
+        words,
+        &totals.transaction_times,
+    )?;
     let words = "Seconds for which an operation waited for other transactions.";
-    push_times(&mut text, "wait", words, &totals.wait_times)?;
+    push_times(&mut text, "wait_seconds", words, &totals.wait_times)?;
     let words = "Seconds for which a connection waited for a session thread.";
-    push_times(&mut text, "queue", words, &totals.queue_times)?;
+    push_times(&mut text, "queue_seconds", words, &totals.queue_times)?;
+    push_process(&mut text, &counts.process)?;
     Ok(text)
+}
+
+/// The lines in front of what is told under this name, which begins so.
+pub(crate) fn push_head(
+    text: &mut String,
+    beginning: &str,
+    name: &str,
+    kind: &str,
+    words: &str,
+) -> Result<(), AllocError> {
+    write!(text, "# HELP {beginning}{name} {words}\n")?;
+    write!(text, "# TYPE {beginning}{name} {kind}\n")
 }
 
 // The lines of a number.
@@ -94,14 +114,13 @@ fn push_number(text: &mut String, number: &Number) -> Result<(), AllocError> {
         words,
         value,
     } = number;
-    write!(text, "# HELP mltx_{name} {words}\n")?;
-    write!(text, "# TYPE mltx_{name} {kind}\n")?;
+    push_head(text, "mltx_", name, kind, words)?;
     write!(text, "mltx_{name} {value}\n")
 }
 
-// So many microseconds, in seconds.
+/// So many microseconds, in seconds.
 #[derive(Clone, Copy)]
-struct Seconds(u64);
+pub(crate) struct Seconds(pub(crate) u64);
 
 impl Display for Seconds {
     fn fmt<W: fmt::Write>(&self, f: &mut fmt::Formatter<W>) -> fmt::Result {
@@ -117,8 +136,7 @@ fn push_times(
     words: &str,
     times: &Histogram,
 ) -> Result<(), AllocError> {
-    write!(text, "# HELP mltx_{name}_seconds {words}\n")?;
-    write!(text, "# TYPE mltx_{name}_seconds histogram\n")?;
+    push_head(text, "mltx_", name, "histogram", words)?;
     let mut sum: u64 = 0;
     for (count, bound) in times.counts.iter().zip(BOUNDS.iter()) {
         sum = sum.wrapping_add(*count);
@@ -127,8 +145,8 @@ fn push_times(
     sum = sum.wrapping_add(times.counts[BOUNDS.len()]);
     push_bucket(text, name, &"+Inf", sum)?;
     let seconds = Seconds(times.microseconds);
-    write!(text, "mltx_{name}_seconds_sum {seconds}\n")?;
-    write!(text, "mltx_{name}_seconds_count {sum}\n")
+    write!(text, "mltx_{name}_sum {seconds}\n")?;
+    write!(text, "mltx_{name}_count {sum}\n")
 }
 
 // The line of a bucket: so many took no longer than its bound.
@@ -138,5 +156,5 @@ fn push_bucket<B: Display>(
     bound: &B,
     sum: u64,
 ) -> Result<(), AllocError> {
-    write!(text, "mltx_{name}_seconds_bucket{{le=\"{bound}\"}} {sum}\n")
+    write!(text, "mltx_{name}_bucket{{le=\"{bound}\"}} {sum}\n")
 }

@@ -1,6 +1,7 @@
 //! What a server is at one moment.
 
 use crate::json::{all_done, number, text_or_null};
+use crate::process::{Build, ProcessFigures};
 use mlt_object_kinds::{Done, ObjOp};
 use mlt_serve_connections::Totals;
 use mlt_types::TxId;
@@ -55,8 +56,8 @@ pub struct ObjectView {
 pub struct Counts {
     /// A number that was drawn at random when the server began.
     pub server: u64,
-    /// The version of the program.
-    pub version: &'static str,
+    /// Of what build the program is.
+    pub build: Build,
     /// Where clients connect, if the system could say so.
     pub address: Option<SocketAddr>,
     /// For how many seconds the server has listened.
@@ -103,6 +104,8 @@ pub struct Counts {
     pub is_loading: bool,
     /// Whether the server was told to end.
     pub is_stopping: bool,
+    /// What the system says of its process.
+    pub process: ProcessFigures,
 }
 
 /// Why a base was not saved.

@@ -14,14 +14,18 @@ use crate::saving::{Mark, SaveFile};
 use mio::Poll;
 use mlt_cli::{Connections, Full, Serve, VERSION};
 use mlt_manager::Manager;
-use mlt_serve::{Admin, Operating, ServeOptions, Served, ServedEndless, serve_endless, serve_on};
+use mlt_serve::{
+    Admin, Build, Operating, ProcessFiles, ServeOptions, Served, ServedEndless, serve_endless,
+    serve_on,
+};
 use mlt_text::write_text;
 use mlt_types::{Limits, Pseudo, Refusal};
-use std::io;
+use std::fs::File;
 use std::io::ErrorKind;
 use std::sync::{Mutex, Wait};
 use std::thread::Threads;
-use std::time::{Clock, Duration};
+use std::time::{Clock, Duration, SystemTime};
+use std::{env, io};
 
 /// Serves connections, as these options say.
 ///
@@ -40,6 +44,7 @@ pub(crate) fn run_server<
     requires some { 0 < serve.now.sessions }
     requires most { serve.now.sessions ≤ 64 }
 {
+    let process = process_files(rt);
     let mut options = serve_options(serve);
     let mut signal = EndSignals::new(rt, threads, serve.operating.until_eof)?;
     let Beginning {
@@ -88,7 +93,11 @@ pub(crate) fn run_server<
                 listener,
                 keys,
                 number,
-                version: VERSION,
+                build: Build {
+                    version: VERSION,
+                    commit: commit_of(rt),
+                },
+                process: &process,
             }),
             None => None,
         },
@@ -142,6 +151,23 @@ pub(crate) fn run_server<
     match trace_failure {
         Some(error) => Err(Failure::of_call(Subject::Trace, error)),
         None => Ok(()),
+    }
+}
+
+// The commit of the program, of which it was started with at least 12 hexadecimal digits.
+fn commit_of(rt: &HostRuntime) -> Option<u64> {
+    let commit = env::var(rt, "MLTX_COMMIT").ok()?;
+    u64::from_str_radix(commit.as_str().get(..12)?, 16).ok()
+}
+
+// Where the system tells of this process, which began just now.
+fn process_files(rt: &HostRuntime) -> ProcessFiles {
+    let now = SystemTime::now(rt).ok();
+    let began = now.and_then(|now| now.duration_since(SystemTime::UNIX_EPOCH).ok());
+    ProcessFiles {
+        stat: File::open(rt, "/proc/self/stat").ok(),
+        descriptors: File::open(rt, "/proc/self/fd").ok(),
+        began: began.and_then(|began| u64::try_from(began.as_micros()).ok()),
     }
 }
 
