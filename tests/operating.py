@@ -1158,10 +1158,10 @@ def page_asks_nobody_else(mltx: Program) -> None:
     page = body.decode().replace('"http://www.w3.org/2000/svg"', "")
     same((status, kind), (200, "text/html; charset=utf-8"), "the page")
     named = re.findall(r"""(?:src|href|action)\s*=\s*["']?([^"'\s>]*)|url\(([^)]*)\)|(@import|https?:|//[a-z]+\.)""", page)
-    holds(all("".join(found).startswith(("data:", "#")) for found in named), f"the page names {named}")
+    holds(all("".join(found).startswith(("data:", "#", "/metrics", "/base?")) for found in named), f"the page names {named}")
     same([path for path in ("/status", "/sessions", "/waits") if path not in page], [], "what the page does not ask for")
     words = "mltx mltx … Save the base Stop the server Waiting transactions Sessions No client is connected. Numbers"
-    same(words_of(page), words, "the words")
+    same(words_of(page), words + " Metrics · Accounts · Counters", "the words")
 
 
 @test(seconds=8)
@@ -1177,13 +1177,18 @@ def page_in_a_browser(mltx: Program) -> None:
         waiter.send("read 7171\n")
         comes(server, "/waits", lambda told: told["waits"], "one waits")
         words = ["--headless", "--no-sandbox", "--disable-gpu", f"--user-data-dir={mltx.folder}/profile"]
-        words += ["--virtual-time-budget=3000", "--dump-dom", "http://%s:%d/" % server.admin]
+        # For people to look at.
+        picture = ROOT / "out/pictures/operator.png"
+        picture.parent.mkdir(parents=True, exist_ok=True)
+        words += [f"--screenshot={picture}", "--window-size=1100,1400", "--virtual-time-budget=3000", "--dump-dom"]
+        words.append("http://%s:%d/" % server.admin)
         ran = subprocess.run([browser, *words], capture_output=True, timeout=PATIENCE)
         says(holder, "commit", "committed 1")
         same(waiter.line(), "is 3", "the one that waited")
     shown = words_of(ran.stdout.decode(errors="replace"))
     name = f"mltx {version(mltx)} at %s:%d" % server.address
-    figures = ("Commits per second 0", "Half and 99 % of transactions within – / –", "Waiting operations 1")
+    figures = ("Commits per second 0", "Transaction p50 / p99 – / –", "Waiting operations 1", "GaveUp per second 0")
+    folded = "1 more client without an open transaction"
     operations = ("read 7171", "deposit 4242 5 missing", "up 7171 3 done", "add 33 4444 added")
-    for text in (name, *figures, "GaveUp answers in a minute 0", *operations, "T1 of client 2", "T2 of client 3", "Trace none"):
+    for text in (name, *figures, folded, *operations, "T1 of client 2", "T2 of client 3", "Trace none"):
         holds(text in shown, f"the page does not show {text!r}: {shown[-1500:]}")

@@ -27,14 +27,22 @@ h2{font-size:1rem;margin:1.4rem 0 .5rem}
 #state.gone{color:var(--stop);font-weight:600}
 button{font:inherit;padding:.3rem .7rem;color:var(--stop);background:none;border:1px solid;border-radius:.4rem;cursor:pointer}
 button:disabled{opacity:.4;cursor:default}
-#figures{display:grid;grid-template-columns:repeat(auto-fit,minmax(12rem,1fr));gap:.5rem;margin:1rem 0 0}
+#figures{display:grid;grid-template-columns:repeat(auto-fit,minmax(11rem,1fr));gap:.5rem;margin:1rem 0 0}
 #figures div{background:var(--card);border:1px solid var(--line);border-radius:.5rem;padding:.6rem .8rem}
-#figures strong{display:block;font-size:1.7rem;line-height:1.3;font-variant-numeric:tabular-nums;white-space:nowrap}
-#figures svg{width:100%;height:2.2rem}
+#figures strong{display:block;font-size:1.3rem;line-height:1.3;font-variant-numeric:tabular-nums;white-space:nowrap}
+#figures p{position:relative;margin:.5rem 0 0}
+#figures svg{width:100%;height:3rem;overflow:visible;border:solid var(--line);border-width:1px 0}
 #figures path{stroke:var(--good);vector-effect:non-scaling-stroke}
+#figures path+path{stroke:var(--wait)}
+#figures i{position:absolute;top:-.55rem;left:0;padding-right:.3rem;background:var(--card)}
+#figures i,.axis{font:.75rem system-ui,sans-serif;color:var(--dim)}
+.axis{display:flex;justify-content:space-between}
+details{margin-top:.5rem}
+summary{color:var(--dim);cursor:pointer}
+summary+ul{margin-top:.5rem}
 dl{display:grid;grid-template-columns:repeat(auto-fill,minmax(9rem,1fr));gap:.5rem;margin:1rem 0 0}
 dl div,li{background:var(--card);border:1px solid var(--line);border-radius:.5rem;padding:.45rem .7rem}
-#figures span,dt{color:var(--dim);font-size:.82rem}
+#figures>div>span,dt{color:var(--dim);font-size:.82rem}
 dd{margin:0;font-size:1.05rem;font-variant-numeric:tabular-nums;overflow-wrap:anywhere}
 ul{list-style:none;margin:0;padding:0;display:grid;gap:.5rem}
 li p{margin:0;display:flex;flex-wrap:wrap;gap:.1rem .8rem;align-items:baseline}
@@ -50,10 +58,11 @@ li:target{border-color:var(--wait)}
 #graph .none{padding:.45rem .7rem}
 svg{display:block;margin:0 auto}
 svg text{font:13px system-ui,sans-serif;fill:var(--ink);text-anchor:middle}
-svg .small{font-size:11px;fill:var(--dim);paint-order:stroke;stroke:var(--card);stroke-width:4px}
+svg .small{font-size:11px;fill:var(--dim)}
 svg rect{fill:var(--card);stroke:var(--good);stroke-width:1.5}
 svg a:hover rect{stroke-width:3}
 svg .waits{stroke:var(--wait)}
+svg .turn,svg .page{stroke-dasharray:4 3}
 svg path{fill:none;stroke:var(--wait);stroke-width:1.5}
 svg marker path{fill:var(--wait);stroke:none}
 .gone-all{opacity:.45}
@@ -73,10 +82,11 @@ svg marker path{fill:var(--wait);stroke:none}
 <div id="graph"><p class="none"></p></div>
 <h2>Sessions</h2>
 <ul id="sessions"></ul>
-<p id="folded" class="none"></p>
+<details id="others" hidden><summary></summary><ul id="idle"></ul></details>
 <p id="nobody" class="none" hidden>No client is connected.</p>
 <h2>Numbers</h2>
 <dl id="counts"></dl>
+<p><a href="/metrics">Metrics</a> · <a href="/base?kind=account">Accounts</a> · <a href="/base?kind=counter">Counters</a></p>
 </main>
 <script>
 "use strict";
@@ -102,17 +112,13 @@ const time = ms => {
 // Nodes remain and only changed text is replaced, so that a button does not vanish during a click.
 const put = (node, text) => { if (node.textContent !== text) node.textContent = text; };
 
-// What the last minute was: a sample for each look.
+// A sample for each look of the last five minutes.
 const samples = [];
 
-// By how much a count grew in a second, up to a sample, over two seconds and more.
-function rate(last, value) {
-  const sample = samples[last], first = samples.find(one => one.at > sample.at - 2.2);
-  const passed = sample.at - first.at;
-  return passed > 0 ? Math.max(0, value(sample) - value(first)) / passed : 0;
-}
+// The latest sample that is so many seconds older than the last one, or else the oldest.
+const before = seconds => samples.findLast(one => one.at < samples.at(-1).at - seconds) || samples[0];
 
-// The bound of the bucket that has this share of the transactions which ended between two samples, in milliseconds.
+// The bound of the bucket that has this share of the transactions which ended since a sample, in milliseconds.
 function quantile(first, last, share) {
   const counts = last.times.counts.map((count, i) => count - first.times.counts[i]);
   const total = counts.reduce((sum, count) => sum + count, 0);
@@ -124,35 +130,46 @@ function quantile(first, last, share) {
 
 const atMost = ms => ms === null ? "–" : ms < 1 ? ms * 1000 + " µs" : time(ms);
 
-function showFigure(name, text, series) {
+// A figure with a curve for each of these members of the samples. Its scale is what their greatest value is called.
+function showFigure(name, text, members, scale) {
   if (!at(name)) {
-    const figure = make("div", {id: name});
-    const line = svg("svg", {viewBox: "0 0 60 10", preserveAspectRatio: "none", "aria-hidden": "true"});
-    line.append(svg("path"), svg("title", {}, "The last minute"));
-    figure.append(make("span", {}, name), make("strong"), line);
+    const figure = make("div", {id: name}), plot = make("p"), axis = make("p", {class: "axis"});
+    const lines = svg("svg", {viewBox: "0 0 60 10", preserveAspectRatio: "none", "aria-hidden": "true"});
+    lines.append(...members.map(() => svg("path")));
+    plot.append(lines, make("i"));
+    axis.append(make("span"), make("span", {}, "now"));
+    figure.append(make("span", {}, name), make("strong"), plot, axis);
     at("figures").append(figure);
   }
   put(at(name).querySelector("strong"), text);
-  const most = Math.max(...series, 1e-9), end = samples[samples.length - 1].at;
-  const points = series.map((value, i) => `${(60 - end + samples[i].at).toFixed(2)} ${(9.5 - 9 * value / most).toFixed(2)}`);
-  at(name).querySelector("path").setAttribute("d", "M" + points.join("L"));
+  const most = Math.max(...members.flatMap(member => samples.map(one => one[member] || 0)));
+  const end = samples.at(-1).at, span = Math.max(60, Math.round(end - samples[0].at));
+  put(at(name).querySelector(".axis span"), time(1000 * span) + " ago");
+  put(at(name).querySelector("i"), most > 0 ? scale(most) : "");
+  members.forEach((member, i) => {
+    const points = samples.map(one =>
+      `${(60 - 60 * (end - one.at) / span).toFixed(2)} ${(10 - 10 * (one[member] || 0) / (most || 1)).toFixed(2)}`);
+    at(name).querySelectorAll("path")[i].setAttribute("d", "M" + points.join("L"));
+  });
 }
 
 function showFigures(now, waits) {
-  const sample = {at: performance.now() / 1000, commits: now.commits, gaveUp: now.gave_up, blocked: waits.length,
-    server: now.server, times: now.transaction_times};
+  const sample = {at: performance.now() / 1000, server: now.server, times: now.transaction_times, blocked: waits.length,
+    committed: now.commits, gaveUp: now.gave_up, memory: now.memory};
   if (samples.length && samples[0].server !== now.server) samples.length = 0;
   samples.push(sample);
-  while (samples[0].at < sample.at - 60) samples.shift();
-  const each = value => samples.map((_, i) => value(i)), last = samples.length - 1;
-  const recent = samples.find(one => one.at > sample.at - 10.2);
-  const commits = each(i => rate(i, one => one.commits));
-  showFigure("Commits per second", count(Math.round(commits[last])), commits);
-  showFigure("Half and 99 % of transactions within",
-    atMost(quantile(recent, sample, .5)) + " / " + atMost(quantile(recent, sample, .99)),
-    each(i => quantile(samples[Math.max(0, i - 4)], samples[i], .99) || 0));
-  showFigure("Waiting operations", count(sample.blocked), each(i => samples[i].blocked));
-  showFigure("GaveUp answers in a minute", count(sample.gaveUp - samples[0].gaveUp), each(i => rate(i, one => one.gaveUp)));
+  while (samples[0].at < sample.at - 300) samples.shift();
+  const some = before(2), recent = before(10), passed = sample.at - some.at || 1;
+  sample.commits = Math.max(0, sample.committed - some.committed) / passed;
+  sample.refusals = Math.max(0, sample.gaveUp - some.gaveUp) / passed;
+  sample.half = quantile(recent, sample, .5);
+  sample.most = quantile(recent, sample, .99);
+  const rounded = n => count(n < 10 ? Math.round(10 * n) / 10 : Math.round(n));
+  showFigure("Commits per second", rounded(sample.commits), ["commits"], rounded);
+  showFigure("Transaction p50 / p99", atMost(sample.half) + " / " + atMost(sample.most), ["half", "most"], atMost);
+  showFigure("Waiting operations", count(sample.blocked), ["blocked"], count);
+  showFigure("GaveUp per second", rounded(sample.refusals), ["refusals"], rounded);
+  showFigure("Memory", now.memory === null ? "–" : bytes(now.memory), ["memory"], bytes);
 }
 
 function showCounts(now) {
@@ -178,7 +195,7 @@ function showCounts(now) {
     "Directory depth": count(now.depth),
     "Room in objects": count(now.room),
     "Trace": now.trace_failed ? "could not be written" : now.trace ? "no fault" : "none",
-    "Server": count(now.server),
+    "Server": String(now.server),
   };
   put(at("name"), "mltx " + now.version + (now.address ? " at " + now.address : ""));
   document.title = at("name").textContent;
@@ -202,20 +219,34 @@ function newRow(client) {
   line.append(make("strong", {}, "Client " + client), text("span", "age address"), text("span", "age since"));
   line.append(text("span", "tx"), text("span", "age work"), end);
   row.append(line, text("code", "did"), text("code", "calls"));
-  at("sessions").append(row);
   return row;
 }
 
-// Of those without a transaction the first 16 are shown.
+// When each client was last seen with an open transaction, in milliseconds.
+const seen = new Map();
+
+// Clients that had no open transaction for ten seconds are folded, and the first 16 of them listed.
 function showSessions(listed, clients) {
-  const idle = listed.filter(session => !session.transaction).sort((a, b) => a.client - b.client).slice(0, 16);
-  const sessions = [...listed.filter(session => session.transaction), ...idle].sort((a, b) => a.client - b.client);
-  const folded = Math.max(clients, listed.length) - sessions.length;
-  put(at("folded"), folded > 0 ? "And " + count(folded) + " more." : "");
+  const now = performance.now();
+  for (const session of listed) if (session.transaction) seen.set(session.client, now);
+  for (const [client, when] of seen) if (when < now - 1e4) seen.delete(client);
+  listed.sort((a, b) => a.client - b.client);
+  const idle = listed.filter(session => !seen.has(session.client)).slice(0, 16);
+  const busy = listed.filter(session => seen.has(session.client));
+  const folded = Math.max(clients, listed.length) - busy.length;
+  put(at("others").firstChild, count(folded) + " more " + (folded === 1 ? "client" : "clients") + " without an open transaction");
+  at("others").hidden = folded === 0;
+  at("nobody").hidden = folded + busy.length > 0;
+  showRows(at("sessions"), busy);
+  showRows(at("idle"), idle);
+}
+
+function showRows(list, sessions) {
   const rows = new Set(sessions.map(session => "client-" + session.client));
-  for (const row of [...at("sessions").children]) if (!rows.has(row.id)) row.remove();
+  for (const row of [...list.children]) if (!rows.has(row.id)) row.remove();
   for (const {client, address, milliseconds, transaction: tx} of sessions) {
     const row = at("client-" + client) || newRow(client);
+    if (row.parentNode !== list) list.append(row);
     const show = (name, text) => put(row.querySelector("." + name), text);
     const operations = tx && count(tx.operations) + (tx.operations === 1 ? " operation" : " operations");
     show("address", address || "");
@@ -225,7 +256,6 @@ function showSessions(listed, clients) {
     show("did", tx ? (tx.operations > tx.did.length ? "… " : "") + tx.did.join(" · ") : "");
     show("calls", tx && tx.calls ? tx.calls + " …" : "");
   }
-  at("nobody").hidden = sessions.length > 0;
 }
 
 // A waiting transaction is drawn above the one that it waits for, except in cycles. A row is no wider than the page.
@@ -251,7 +281,7 @@ function showWaits(waits, sessions) {
   const tip = svg("marker", {id: "tip", refX: 7, refY: 4, markerWidth: 8, markerHeight: 8, orient: "auto"});
   tip.append(svg("path", {d: "M0 0 8 4 0 8z"}));
   picture.append(tip);
-  const labels = [], waiting = new Map(waits.map(wait => [wait.waiter, wait]));
+  const waiting = new Map(waits.map(wait => [wait.waiter, wait]));
   const open = sessions.filter(session => session.transaction);
   const held = new Map(open.map(session => [session.transaction.number, session.transaction.did]));
   const clients = new Map(open.map(session => [session.transaction.number, session.client]));
@@ -266,16 +296,15 @@ function showWaits(waits, sessions) {
       return [x + (mx - x) * k, y + (my - y) * k];
     };
     const [ax, ay] = edge(x1, y1), [bx, by] = edge(x2, y2);
-    picture.append(svg("path", {d: `M${ax} ${ay}Q${mx} ${my} ${bx} ${by}`, "marker-end": "url(#tip)"}));
-    if (wait.for === "object") continue;
-    labels.push(svg("text", {class: "small", x: (ax + bx) / 4 + mx / 2, y: (ay + by) / 4 + my / 2 + 4}, wait.for));
+    picture.append(svg("path", {class: wait.for, d: `M${ax} ${ay}Q${mx} ${my} ${bx} ${by}`, "marker-end": "url(#tip)"}));
   }
   for (const [tx, [x, y]] of place) {
     const wait = waiting.get(tx), corner = {x: x - halfWidth, y: y - halfHeight, rx: 8};
     const size = {width: 2 * halfWidth, height: 2 * halfHeight};
     const node = clients.has(tx) ? svg("a", {href: '#client-' + clients.get(tx)}) : svg("g");
     const did = held.get(tx) || [];
-    const text = wait ? (wait.operation || "no operation") + ", " + time(wait.milliseconds) : did[did.length - 1] || "";
+    const why = wait && wait.for !== "object" ? ", " + wait.for : "";
+    const text = wait ? (wait.operation || "no operation") + why + ", " + time(wait.milliseconds) : did[did.length - 1] || "";
     const short = text.length > 28 ? text.slice(0, 27) + "…" : text;
     node.append(svg("title", {}, [...did, ...(wait ? [text] : [])].join("\n") || "no operation"));
     node.append(svg("rect", {class: wait ? "waits" : "", ...corner, ...size}));
@@ -283,7 +312,6 @@ function showWaits(waits, sessions) {
     node.append(svg("text", {class: "small", x, y: y + 14}, short));
     picture.append(node);
   }
-  picture.append(...labels);
   at("graph").replaceChildren(picture);
 }
 
