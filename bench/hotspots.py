@@ -1,5 +1,6 @@
 """What is measured of transactions that all change the same counter or account, with and without time to think, of which some
 are aborted."""
+import hashlib
 import math
 import socket
 import sys
@@ -32,7 +33,11 @@ THINK = 2_000
 ABORTS, OTHER_ABORTS = 10, (0, 2)
 # How many transactions there are where it is to be quick.
 FEW = 40
-BEGINS = {"PostgreSQL": "BEGIN;", "PostgreSQL SSI": "BEGIN ISOLATION LEVEL SERIALIZABLE;"}
+READ_COMMITTED = "BEGIN;"
+BEGINS = {"PostgreSQL": READ_COMMITTED, "PostgreSQL SSI": "BEGIN ISOLATION LEVEL SERIALIZABLE;"}
+# In which order PostgreSQL changes the drawn row and the hot one, and thinks: it holds the hot one once it has changed it.
+ORDERS = {"PostgreSQL hot second": ("drawn", "think", "hot", "think"), "PostgreSQL hot last": ("drawn", "think", "think", "hot")}
+FIRST = ("hot", "think", "drawn", "think")
 UPDATE = "UPDATE counter SET value = value"
 # The table of SQLite. Readers go on beside a writer, and nothing waits for a disk.
 SQLITE_TABLE = (
@@ -44,23 +49,31 @@ SQLITE_TABLE = (
 
 @dataclass(frozen=True)
 class Changes:
-    """What a transaction changes, and the two changes in the words of each system; the hot cell is changed first."""
+    """What a transaction changes, and the two changes in the words of each system; the hot cell is changed first. A script of
+    Redis makes both at once."""
 
     cell: str
     mltx: tuple[str, str]
     redis: tuple[str, str]
     sql: tuple[str, str]
+    lua: str
 
 
 DEPOSIT = f"{UPDATE} + 1 WHERE id = :drawn"
+BOTH = "redis.call('{}', KEYS[1], 1) redis.call('INCRBY', KEYS[2], 1) return 1"
 COUNTERS = Changes(
-    "counter", (f"up {HOT} 1", "up @1 1"), (f"INCRBY {HOT} 1", "INCRBY @1 1"), (f"{UPDATE} + 1 WHERE id = {HOT}", DEPOSIT)
+    "counter",
+    (f"up {HOT} 1", "up @1 1"),
+    (f"INCRBY {HOT} 1", "INCRBY @1 1"),
+    (f"{UPDATE} + 1 WHERE id = {HOT}", DEPOSIT),
+    BOTH.format("INCRBY"),
 )
 ACCOUNTS = Changes(
     "account",
     (f"withdraw {HOT} 1", "deposit @1 1"),
     (f"DECRBY {HOT} 1", "INCRBY @1 1"),
     (f"{UPDATE} - 1 WHERE id = {HOT} AND value >= 1", DEPOSIT),
+    "if tonumber(redis.call('GET', KEYS[1])) < 1 then return 0 end " + BOTH.format("DECRBY"),
 )
 
 
@@ -97,11 +110,17 @@ class Case:
         changes = [f"+{change}" for change in self.changes.redis]
         return self.load(f"WATCH {HOT} @1", *reads, "MULTI", *changes, "+EXEC", is_redis=True)
 
-    def on_postgres(self, begin: str) -> list[postgres.Weighed]:
+    def on_redis_by_a_script(self) -> Load:
+        """A client thinks, and then has a script do all; it can't look at a reply before. One that aborts has it do nothing."""
+        thinks = [f"think {self.think}"] * (2 * (self.think > 0))
+        called = f"EVALSHA {hashlib.sha1(self.changes.lua.encode()).hexdigest()} 2 {HOT} @1"
+        return replace(self.load(*thinks, called, is_redis=True), undo="PING")
+
+    def on_postgres(self, begin: str, order: tuple[str, ...] = FIRST) -> list[postgres.Weighed]:
         """A script that commits, and where some are aborted one that is."""
         hot, drawn = self.changes.sql
-        changes = self.with_thought((f"{hot};", f"{drawn};"), f"\\sleep {self.think} us")
-        lines = [f"\\set drawn random(0, {DRAWN - 1})", begin, *changes]
+        steps = {"hot": [f"{hot};"], "drawn": [f"{drawn};"], "think": [f"\\sleep {self.think} us"] * (self.think > 0)}
+        lines = [f"\\set drawn random(0, {DRAWN - 1})", begin, *(line for step in order for line in steps[step])]
         ends = {"COMMIT;": self.aborts - 1, "ROLLBACK;": 1} if self.aborts else {"COMMIT;": 1}
         return [postgres.Weighed("\n".join([*lines, end, ""]), weight) for end, weight in ends.items()]
 
@@ -138,24 +157,26 @@ def on_mltx(case: Case, bench: Bench, program: Path) -> Sample:
         return commits(figures_of(bench, server.port, case.on_mltx(), bench.limit(FEW)), **case.limit())
 
 
-def fill(server: Server) -> None:
-    """Gives all cells of a Redis so much that it is never spent."""
+def ask_redis(server: Server, *words: str) -> None:
+    """Has a Redis do a command, which it must not refuse."""
     with socket.create_connection((LOCAL, server.port), START) as client:
-        client.sendall(f"MSET {' '.join(f'{cell} {RICH}' for cell in range(HOT + 1))}\r\n".encode())
-        if (answer := client.recv(100)) != b"+OK\r\n":
+        client.sendall("".join([f"*{len(words)}\r\n", *(f"${len(word)}\r\n{word}\r\n" for word in words)]).encode())
+        if (answer := client.recv(100))[:1] not in (b"+", b"$"):
             raise Failed(f"redis-server answers {answer!r}")
 
 
-def on_redis(load: Load, bench: Bench, _program: Path) -> Sample:
+def on_redis(load: Load, changes: Changes, bench: Bench, _program: Path) -> Sample:
+    """All cells have so much that it is never spent, and the script is known."""
     with redis(bench.folder) as server:
-        fill(server)
+        ask_redis(server, "MSET", *(word for cell in range(HOT + 1) for word in (str(cell), str(RICH))))
+        ask_redis(server, "SCRIPT", "LOAD", changes.lua)
         return commits(figures_of(bench, server.port, load, bench.limit(FEW)))
 
 
-def on_postgres(case: Case, begin: str, bench: Bench, _program: Path) -> Sample:
+def on_postgres(case: Case, begin: str, order: tuple[str, ...], bench: Bench, _program: Path) -> Sample:
     limit = bench.pick(["--time", math.ceil(bench.seconds)], ["--transactions", max(1, FEW // case.clients)])
     programs = bench.tools.paths["postgres"]
-    told = postgres.load(programs, bench.folder, case.on_postgres(begin), case.clients, case.threads(), HOT + 1, limit)
+    told = postgres.load(programs, bench.folder, case.on_postgres(begin, order), case.clients, case.threads(), HOT + 1, limit)
     lost = told.lost / max(told.ended, 1)
     return Sample(told.per_second, *postgres.percentiles(told.times), {"lost/commit": lost})
 
@@ -173,12 +194,15 @@ def on_sqlite(case: Case, bench: Bench, _program: Path) -> Sample:
 def sides_of(case: Case) -> Iterator[Side]:
     yield Side("mltx", partial(on_mltx, case), ("load",))
     for name, begin in BEGINS.items():
-        yield Side(name, partial(on_postgres, case, begin), ("postgres",))
+        yield Side(name, partial(on_postgres, case, begin, FIRST), ("postgres",))
+    for name, order in ORDERS.items():
+        if case.think:
+            yield Side(name, partial(on_postgres, case, READ_COMMITTED, order), ("postgres",))
     yield Side("SQLite", partial(on_sqlite, case), ("writers",))
     needs = ("load", "redis-server")
-    yield Side("Redis WATCH", partial(on_redis, case.on_redis_that_watches()), needs)
-    if not case.think:
-        yield Side("Redis MULTI", partial(on_redis, case.on_redis()), needs)
+    loads = {"Redis WATCH": case.on_redis_that_watches(), "Redis Lua": case.on_redis_by_a_script()}
+    for name, load in (loads if case.think else {**loads, "Redis MULTI": case.on_redis()}).items():
+        yield Side(name, partial(on_redis, load, case.changes), needs)
 
 
 def works() -> Iterator[Work]:
@@ -204,7 +228,8 @@ TITLE = "Transactions that all change one counter"
 ABOUT = (
     f"Each adds to a counter that all share, thinks {THINK // 1_000} ms, adds to one of four others, thinks {THINK // 1_000} ms,"
     " and commits, or is aborted in one case of ten. Dashed is what clients would do that no lock held up."
-    " PostgreSQL locks rows (read committed), or is serializable (SSI) and tries again, as Redis does, which watches keys."
+    " PostgreSQL locks rows (read committed), the shared one first, second or last, or is serializable (SSI) and tries again, as"
+    " Redis does, which watches keys; or a client thinks first, and then sends Redis a script in Lua, without looking at a reply."
     " SQLite lets one transaction write at a time (BEGIN IMMEDIATE)."
 )
 

@@ -6,7 +6,8 @@
    counters drawn for the transaction, each another one. By default it sends a line once the one before is answered, with --whole
    all of them in one write; a line that begins with `+` goes out with the one before it. `think N` is not sent: the client waits
    for so many microseconds. A transaction that is refused an operation is aborted and run again, at once or, with --rest N, once
-   N to 2 N microseconds have passed. With --aborts N one of N transactions is aborted in place of its last line, by chance.
+   N to 2 N microseconds have passed. With --aborts N one of N transactions is aborted in place of its last line, by chance, by
+   `abort`, in Redis `DISCARD`, or the LINE of --undo.
 
    At the end one line tells how many transactions ended, in how many seconds, the median and the 99th percentile of how long they
    took, in microseconds, from the first line of the first try, how many tries were refused, how many transactions were aborted in
@@ -30,7 +31,7 @@ enum { MOST_CONNECTIONS = 1 << 10, MOST_LATENCIES = 1 << 24, MOST_DRAWN = 4 };
 /* For how long a thread sleeps at most before it looks whether the load is over. */
 static const double LONGEST_SLEEP = 0.05;
 /* How many bytes a line may have as it is given, what it may come to, and what all lines of a transaction may come to. */
-enum { MOST_GIVEN = 32, MOST_LINE = 1 << 10, MOST_TEXT = 1 << 18 };
+enum { MOST_GIVEN = 64, MOST_LINE = 1 << 10, MOST_TEXT = 1 << 18 };
 /* A session of mltx ends after so many bytes, so a client connects again where a transaction more might not fit. */
 enum { MOST_SENT = 16777216 };
 
@@ -39,6 +40,7 @@ struct options {
     bool redis, whole;
     double seconds;
     unsigned long transactions, counters, seed, rest, aborts;
+    const char *undo;
 };
 
 struct connection {
@@ -156,7 +158,7 @@ static size_t put(const struct connection *it, char *to, const char *line)
 /* The line that takes a transaction back. */
 static const char *abort_line(void)
 {
-    return options.redis ? "DISCARD" : "abort";
+    return options.undo != NULL ? options.undo : options.redis ? "DISCARD" : "abort";
 }
 
 /* The line of this number in the transaction of a client. */
@@ -452,7 +454,8 @@ static void read_options(int count, char **words)
         {"seconds", required_argument, NULL, 's'},      {"counters", required_argument, NULL, 'k'},
         {"transactions", required_argument, NULL, 't'}, {"seed", required_argument, NULL, 'd'},
         {"threads", required_argument, NULL, 'h'},      {"rest", required_argument, NULL, 'e'},
-        {"aborts", required_argument, NULL, 'a'},       {NULL, 0, NULL, 0},
+        {"aborts", required_argument, NULL, 'a'},       {"undo", required_argument, NULL, 'u'},
+        {NULL, 0, NULL, 0},
     };
     for (int option; (option = getopt_long(count, words, "", known, NULL)) != -1;) {
         switch (option) {
@@ -467,6 +470,7 @@ static void read_options(int count, char **words)
         case 'h': options.threads = atoi(optarg); break;
         case 'e': options.rest = strtoul(optarg, NULL, 10); break;
         case 'a': options.aborts = strtoul(optarg, NULL, 10); break;
+        case 'u': options.undo = optarg; break;
         default: exit(2);
         }
     }

@@ -32,8 +32,8 @@ CLIENT_THREADS = max(2, min(8, os.cpu_count() or 1))
 @dataclass(frozen=True)
 class Load:
     """What clients send: the lines of a transaction, from how many connections, whether in one write, and in how many threads;
-    the least microseconds that they wait after a refusal, which some wait for twice as long, and that one of so many
-    transactions is aborted."""
+    the least microseconds that they wait after a refusal, which some wait for twice as long, that one of so many transactions is
+    aborted, and the line by which, where it is not the usual one."""
 
     lines: tuple[str, ...]
     connections: int = 1
@@ -43,10 +43,11 @@ class Load:
     redis: bool = False
     rest: int = 0
     aborts: int = 0
+    undo: str = ""
 
     def for_redis(self) -> "Load":
-        words = {BEGIN: "MULTI", COMMIT: "EXEC"}
-        lines = tuple(words.get(line, line.replace("up ", "INCRBY ")) for line in self.lines)
+        words = {BEGIN: "MULTI", COMMIT: "EXEC", "up": "INCRBY", "add": "SADD", "remove": "SREM", "has": "SISMEMBER"}
+        lines = tuple(" ".join(words.get(word, word) for word in line.split()) for line in self.lines)
         return replace(self, lines=lines, redis=True)
 
 
@@ -60,7 +61,7 @@ def loading(bench: Bench, port: int, load: Load, limit: Limit) -> AbstractContex
     words += ["--connections", load.connections, "--counters", load.counters]
     words += ["--seed", bench.seed, "--seconds", limit.seconds, "--threads", load.threads]
     words += ["--transactions", limit.transactions] if limit.transactions else []
-    words += ["--rest", load.rest, "--aborts", load.aborts]
+    words += ["--rest", load.rest, "--aborts", load.aborts, *["--undo", load.undo] * bool(load.undo)]
     words += [*["--whole"] * load.whole, *["--redis"] * load.redis, "--", *load.lines]
     return started(words, **PIPES)
 
@@ -129,6 +130,8 @@ def sides_of(load: Load, *others: str) -> tuple[Side, ...]:
 
 WAYS = {False: "a line a round trip", True: "a transaction a write"}
 THREE = transaction(*["up ? 1"] * 3)
+# The same of elements of one set.
+SET = transaction("add 1 ?", "has 1 ?", "remove 1 ?")
 
 
 def named(connections: int, threads: int) -> str:
@@ -152,6 +155,13 @@ def connections_works() -> Iterator[Work]:
             if not whole or connections == SESSIONS:
                 load = Load(THREE, connections, whole, counters=50_000, threads=threads)
                 yield Work("connections", f"{named(connections, threads)}, {way}", "transactions/s", sides_of(load, "Redis"))
+
+
+def sets_works() -> Iterator[Work]:
+    for connections in (8, SESSIONS):
+        for whole, way in WAYS.items():
+            load = Load(SET, connections, whole, counters=50_000, threads=min(connections, CLIENT_THREADS))
+            yield Work("sets", f"{named(connections, load.threads)}, {way}", "transactions/s", sides_of(load, "Redis"))
 
 
 def with_tail(side: Side, beside: int) -> Side:
@@ -364,6 +374,7 @@ def memory_works() -> Iterator[Work]:
 GROUPS = {
     "serve": Group("sessions that add to 3 of 50,000 counters, against Redis, PostgreSQL and a bare echo", serve_works),
     "connections": Group("1 to 64 sessions that add to 3 of 50,000 counters, against Redis", connections_works),
+    "sets": Group("8 and 64 sessions that add, look up and remove one of 50,000 elements of a set, against Redis", sets_works),
     "hot": Group("8 sessions on 3 counters, quiet and beside busy processes, against Redis", hot_works),
     "held": Group("an up of a counter of which many operations are held, against one of another counter", held_works),
     "open": Group("an up beside up to 63 open transactions", open_works),

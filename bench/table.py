@@ -12,7 +12,7 @@ WIDTHS = [64, 22, 16, 9, 9, 6, 13, 15, 15, 0]
 NONE = "-"
 # The columns of a CSV file.
 COLUMNS = ["group", "workload", "unit", "compared with", "value", "other value", "ratio", "spread",
-           "p50", "other p50", "p99", "other p99", "notes", "build", "rounds", "load", "date"]
+           "p50", "other p50", "p99", "other p99", "notes", "build", "rounds", "load", "date", "machine", "versions"]
 
 
 @dataclass(frozen=True)

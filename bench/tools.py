@@ -114,8 +114,12 @@ def _version_of(program: Path) -> str:
     return found[0].decode() if found else "of no known version"
 
 
-def description() -> str:
-    """The machine, in some words."""
+def machine() -> str:
+    """The machine and its system, in some words."""
     cpus = re.findall(r"(?m)^model name\s*: (.*)$", Path("/proc/cpuinfo").read_text())
-    system = f"{platform.system()} {platform.release()}"
-    return f"{os.cpu_count()} cores, {cpus[0] if cpus else platform.machine()}, {system}, load {os.getloadavg()[0]:.1f}"
+    return f"{os.cpu_count()} cores, {cpus[0] if cpus else platform.machine()}, {platform.system()} {platform.release()}"
+
+
+def description() -> str:
+    """The machine, and how busy it is."""
+    return f"{machine()}, load {os.getloadavg()[0]:.1f}"

@@ -74,7 +74,8 @@ def check_hotspots(rows: Rows, left_out: set[str]) -> None:
     for work in works:
         told = [cells for cells in rows if cells[0] == work]
         systems = {cells[2] for cells in told if cells[2] != "-"}
-        for name in ("SQLite", "PostgreSQL", "PostgreSQL SSI", "Redis WATCH"):
+        orders = ("PostgreSQL hot second", "PostgreSQL hot last") if "2 ms" in work else ()
+        for name in ("SQLite", "PostgreSQL", "PostgreSQL SSI", "Redis WATCH", "Redis Lua", *orders):
             holds((name in systems) != (f"{name} in hotspots" in left_out), f"{name} in {work}: it is told of, or left out")
         if "2 ms" in work:
             clients = int(match(r"(\d+) client", work)[1])
@@ -89,6 +90,7 @@ def check_csv(folder: Path, rows: Rows) -> None:
     same(sorted(told), sorted([cells[0], cells[3].replace(",", "")] for cells in rows), "the rows of the files")
     for row in (row for lines in files.values() for row in lines):
         holds(row["build"].endswith("(quick)") and row["rounds"] == "1" and row["load"] and row["date"], f"{row}")
+        holds("cores" in row["machine"] and row["versions"] is not None, f"{row}")
 
 
 @test(seconds=25)
