@@ -264,7 +264,7 @@ def prompt_that_watches(mltx: Program) -> None:
             asked, told = cast(IO[bytes], process.stdin), cast(IO[bytes], process.stdout)
             asked.write(b":watch\n:waits\n")
             asked.flush()
-            while not told.readline().startswith(b"stopping "):
+            while not told.readline().startswith(b"memory "):
                 pass
             client.run(lambda tx: tx.up(7, 1))
             while (line := told.readline()) == b"no change\n":

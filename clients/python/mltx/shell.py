@@ -201,7 +201,7 @@ class Shell(cmd.Cmd):
             while True:
                 time.sleep(WATCH_PAUSE)
                 told = self.asked_operator().status()
-                changes = {name: number - before.get(name, 0) for name, number in told.items() if name != "seconds"}
+                changes = {name: number - before.get(name, 0) for name, number in told.items() if name not in ("seconds", "memory")}
                 self.say(", ".join(f"{name} {told[name]} ({by:+})" for name, by in changes.items() if by) or "no change")
                 before = told
         except KeyboardInterrupt:
