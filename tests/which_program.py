@@ -62,9 +62,15 @@ run)
     ;;
 esac
 """
-# Its compiler notes its words, and its linker makes a program that tells what it was linked from.
+# Its compiler notes its words, and what it compiles: the text of a module, which it makes first. Its linker makes a program that
+# tells what it was linked from.
 CLANG = r"""#!/bin/sh
 printf '%s\n' "$@" >"$NOTES/clang"
+if [ "$4" = -S ]; then
+    printf 'define internal void @"%s"() {\n  ret void\n}\n' core::hint::spin_loop core::other >"$7"
+else
+    cp "$2" "$NOTES/module"
+fi
 """
 LINKER = r"""#!/bin/sh
 before=
@@ -213,9 +219,11 @@ def unproved_program_is_optimised_and_not_watched(mltx: Program) -> None:
     """The compiler is asked to optimise, and else for the same; nothing of what watches accesses is linked."""
     tree = Tree(mltx)
     tree.run("solo")
-    words = ["-c", "a  b.bc", "-o", "input.o", "-O1"]
+    words = ["-c", "a  b.bc.ll", "-o", "input.o", "-O1"]
     same(sorted((tree.notes / "clang").read_text().splitlines()), sorted(words), "the words of the compiler")
     holds("watched" not in tree.unproved.read_text(), "the program is not watched")
+    waits, other = (tree.notes / "module").read_text().split("}\n")[:2]
+    holds('asm sideeffect "pause"' in waits and "pause" not in other, f"a loop that waits has a pause: {waits}")
 
 
 @test

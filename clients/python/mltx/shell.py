@@ -38,6 +38,8 @@ except ImportError:
 MOST_FILES = 16
 # How many lines of history are kept from one use to the next.
 MOST_HISTORY = 1_000
+# What changes without anybody doing anything, so that `:watch` leaves it out.
+UNWATCHED = ("seconds", "memory")
 # How long `:watch` pauses, in seconds.
 WATCH_PAUSE = 1.0
 # Other words for the end, and words of other systems for lines.
@@ -201,7 +203,7 @@ class Shell(cmd.Cmd):
             while True:
                 time.sleep(WATCH_PAUSE)
                 told = self.asked_operator().status()
-                changes = {name: number - before.get(name, 0) for name, number in told.items() if name not in ("seconds", "memory")}
+                changes = {name: number - before.get(name, 0) for name, number in told.items() if name not in UNWATCHED}
                 self.say(", ".join(f"{name} {told[name]} ({by:+})" for name, by in changes.items() if by) or "no change")
                 before = told
         except KeyboardInterrupt:
