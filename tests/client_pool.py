@@ -299,7 +299,8 @@ def address_of_the_environment(mltx: Program) -> None:
         calls: list[Callable[[], object]] = [Client, client_module.connect, Pool, lambda: Client("nowhere"), lambda: Pool(size=0)]
         for call in [*calls, lambda: Client(None, 7000), lambda: Pool("127.0.0.1:7000", size=0)]:
             raised(ValueError, call)
-    raised(TypeError, lambda: Pool("127.0.0.1:7000", answer=5))
+    unknown: dict[str, Any] = {"answer": 5}
+    raised(TypeError, lambda: Pool("127.0.0.1:7000", **unknown))
 
 
 # Pools

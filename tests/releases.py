@@ -106,7 +106,7 @@ def server_of_a_release_tells_its_commit(mltx: Program) -> None:
     """As its metrics and its page have it."""
     clone = Clone(mltx)
     found, admin = clone.unpacked(mltx.folder / "made"), "%s:%d" % free_address()
-    words = [found / "bin/mltx", "serve", "%s:%d" % free_address(), "--admin", admin]
+    words: list[str | Path] = [found / "bin/mltx", "serve", "%s:%d" % free_address(), "--admin", admin]
     with subprocess.Popen(words, stderr=PIPE, text=True) as process:
         try:
             assert process.stderr

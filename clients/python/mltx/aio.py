@@ -259,17 +259,7 @@ connect = _connecting(Client)
 class Pool(PoolCore[Client]):
     """As `mltx.Pool`, for tasks."""
 
-    def __init__(
-        self,
-        address: Optional[str] = None,
-        port: Optional[int] = None,
-        *,
-        size: int = 10,
-        timeout: Optional[float] = 5.0,
-        idle: Optional[float] = 60.0,
-        **options: Any,
-    ) -> None:
-        super().__init__([Client(address, port, **options) for _ in range(size)], timeout, idle)
+    _client_of = Client
 
     async def __aenter__(self) -> Pool:
         return self

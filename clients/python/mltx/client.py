@@ -342,18 +342,7 @@ class Pool(PoolCore[Client]):
     `ServerRestarted`, with those that were just beginning a transaction, and the others don't. As a `with` block the pool is
     closed at the end of the block."""
 
-    def __init__(
-        self,
-        address: Optional[str] = None,
-        port: Optional[int] = None,
-        *,
-        size: int = 10,
-        timeout: Optional[float] = 5.0,
-        idle: Optional[float] = 60.0,
-        **options: Any,
-    ) -> None:
-        """The address and the other options are those of `Client`."""
-        super().__init__([Client(address, port, **options) for _ in range(size)], timeout, idle)
+    _client_of = Client
 
     def __enter__(self) -> Pool:
         return self

@@ -737,7 +737,6 @@ class ClientCore(Generic[Session, Tx]):
                 if not tries.go_on(failure, tx):
                     raise
 
-
     async def _run_all(
         self, operations: Iterable[Operation[Result]], is_partly: bool, retries: Optional[Retries]
     ) -> list[Result]:
@@ -798,10 +797,43 @@ class PoolCore(PerProcess, Generic[ClientOf]):
     beginning a transaction, and the others don't. Of those that are free one with a connection is taken before others. Whenever
     one is given back, the connections end that were free for `idle` seconds, if that is not None."""
 
-    def __init__(self, clients: list[ClientOf], timeout: Optional[float], idle: Optional[float]) -> None:
+    # The class of its clients.
+    _client_of: Callable[..., ClientOf]
+
+    def __init__(
+        self,
+        address: Optional[str] = None,
+        port: Optional[int] = None,
+        *,
+        size: int = 10,
+        timeout: Optional[float] = 5.0,
+        idle: Optional[float] = 60.0,
+        connect_timeout: Optional[float] = 5.0,
+        answer_timeout: Optional[float] = None,
+        session_timeout: Optional[float] = 5.0,
+        retries: Retries = Retries(),
+        on_retry: Optional[OnRetry] = None,
+        admin: Optional[str] = None,
+        expects_restart: bool = False,
+    ) -> None:
+        """The address and the options from `connect_timeout` on are those of `Client`."""
         super().__init__()
-        if not clients:
-            raise ValueError("size has to be at least 1")
+        if size < 1:
+            raise ValueError(f"size has to be at least 1, and is {size}")
+        clients = [
+            self._client_of(
+                address,
+                port,
+                connect_timeout=connect_timeout,
+                answer_timeout=answer_timeout,
+                session_timeout=session_timeout,
+                retries=retries,
+                on_retry=on_retry,
+                admin=admin,
+                expects_restart=expects_restart,
+            )
+            for _ in range(size)
+        ]
         self.timeout, self.idle = timeout, idle
         self.is_closed = False
         self._lock = threading.Lock()
