@@ -2,10 +2,11 @@ mod Names
 pub mod Loops
 mod Parts
 pub mod Placed
+pub mod Telling
+pub mod Told
 pub mod Begun
-pub mod Marks
+pub mod Places
 pub mod Counts
 pub mod Orderly
-pub mod Shares
 pub mod CommitOrder
 pub mod CommittedList

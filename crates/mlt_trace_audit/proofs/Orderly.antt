@@ -1,9 +1,9 @@
 -- Histories in order: the numbers begun count, and no item stands before its begin.
-use Rattle.std.proofs.Common.{◌≡◌, ℕ, zero, suc, ◌+◌, ◌<◌, ◌≤◌, List, [], ◌∷◌, ◌++◌, true, length, get_or, take, Some, slice_get, refl, sym, subst, ◌∙◌, arith, take_all}
-use Rattle.mlt_trace_audit.proofs.Names.{slice_get-get_or, TraceItem, Begin, Abort, AreBegunInOrder, CountsFrom, begin_count, begun_txs-append, AreOrdered, StandsBehind, is_told, tx_of, HasNothing, slice_get_read}
+use Rattle.std.proofs.Common.{◌≡◌, ℕ, zero, suc, ◌+◌, ◌<◌, ◌≤◌, List, [], ◌∷◌, ◌++◌, true, length, get_or, take, Some, slice_get, refl, sym, subst, arith, take_all}
+use Rattle.mlt_trace_audit.proofs.Names.{slice_get-get_or, TraceItem, Begin, Abort, AreBegunInOrder, CountsFrom, begin_count, AreOrdered, StandsBehind, is_told, tx_of, slice_get_read}
 use Rattle.mlt_trace.proofs.ItemLaws.{begin_keeps_order, no_begin}
-use Rattle.mlt_trace_audit.proofs.{Loops.up_to_here, Placed.HaveSame, Placed.same_behind, Placed.same_other}
-use Rattle.std.proofs.{Math.Seq.take-suc, lemmas.Grind.common_steps}
+use Rattle.mlt_trace_audit.proofs.{Loops.up_to_here}
+use Rattle.std.proofs.{Math.Seq.take-suc}
 
 -- the items before a place are in order
 abbrev pub AreOrderedTo : List TraceItem → ℕ → Type 0
@@ -25,36 +25,17 @@ pub told_of_begun : (begun : ℕ) (item : TraceItem) → StandsBehind begun item
 told_of_begun begun (Begin tx) follows told = absurd (cc told)
 told_of_begun begun other follows told = follows
 
--- an item is of no transaction that is not begun
-nothing_last : (begun tx : ℕ) (item : TraceItem) → StandsBehind begun item → (0 < tx → begun < tx) → HaveSame tx (item ∷ []) []
-nothing_last begun tx (Begin i) follows out = record { ops = refl; closed = refl }
-nothing_last begun tx other follows out = same_other tx other [] (λ own. omega (arith, own, follows.0, follows.1, out))
-
 -- ---- items before a place
 
--- by induction on the place
-each_front : (items : List TraceItem) (P : List TraceItem → Type 0) → P [] → ((k : ℕ) (item : TraceItem) → slice_get items k ≡ Some item → P (take k items) → P (take k items ++ item ∷ []))
-    → (k : ℕ) → k ≤ length items → P (take k items)
-each_front items P none more zero within = none
-each_front items P none more (suc k) within =
-    let low : k < length items = omega (arith, within) in
-    let rest = each_front items P none more k (omega (arith, low)) in
-    subst P (sym (take-suc items k (Abort 0) low)) (more k (get_or items k (Abort 0)) (slice_get-get_or items k (Abort 0) low) rest)
-
 module _ (items : List TraceItem) (ordered : AreOrdered items) where
-  pub begun_in_order_to : (k : ℕ) → k ≤ length items → AreBegunInOrder (take k items)
-  begun_in_order_to = each_front items AreBegunInOrder tt (λ k item found. counts_item (take k items) item (ordered k item found))
+  -- by induction on the place
+  begun_in_order_to : (k : ℕ) → k ≤ length items → AreBegunInOrder (take k items)
+  begun_in_order_to zero within = tt
+  begun_in_order_to (suc k) within =
+      let low : k < length items = omega (arith, within) in
+      let item = get_or items k (Abort 0) in
+      let rest = begun_in_order_to k (omega (arith, low)) in
+      subst AreBegunInOrder (sym (take-suc items k (Abort 0) low)) (counts_item (take k items) item (ordered k item (slice_get-get_or items k (Abort 0) low)) rest)
 
   pub begun_in_order : AreBegunInOrder items
   begun_in_order = subst AreBegunInOrder (take_all (length items) items (omega arith)) (begun_in_order_to (length items) (omega arith))
-
-  -- of a transaction that is not begun there is nothing
-  pub nothing_to : (tx k : ℕ) → k ≤ length items → (0 < tx → begin_count (take k items) < tx) → HasNothing tx (take k items)
-  nothing_to tx = each_front items (λ front. (0 < tx → begin_count front < tx) → HasNothing tx front) (λ out. record { ops = refl; closed = refl }) (λ k item found before out.
-      let out_before : 0 < tx → begin_count (take k items) < tx = λ some. grind (arith, common_steps, out some, begun_txs-append (take k items) (item ∷ [])) in
-      let same = same_behind tx (take k items) (item ∷ []) (before out_before) in
-      let last = nothing_last (begin_count (take k items)) tx item (ordered k item found) out_before in
-      record { ops = same.ops ∙ last.ops; closed = same.closed ∙ last.closed })
-
-  pub nothing_of_none : (tx : ℕ) → tx ≡ 0 → HasNothing tx items
-  nothing_of_none tx none = subst (HasNothing tx) (take_all (length items) items (omega arith)) (nothing_to tx (length items) (omega arith) (λ some. absurd (omega (arith, none, some))))

@@ -1,6 +1,6 @@
 -- What items have of a transaction, and that placed ones have nothing of it behind its close.
 use Rattle.std.proofs.Common.{◌≡◌, ◌≢◌, ℕ, List, [], ◌∷◌, ◌++◌, Contains, refl, sym, ap, subst, ◌∙◌, inl, inr, append_assoc, arith, eq-eqb}
-use Rattle.mlt_trace_audit.proofs.Names.{cases_eq, ObjOp, ObjReply, Lists, Running, Ended, changed, TraceItem, Begin, Op, Commit, begun_txs, begun_txs-append, ArePlaced, HasPlace, told, begun_stays, number_in, stage-other, told-push, runs_begun, HasNothing, closings_of, ops_of, ByCommit, nat_tests}
+use Rattle.mlt_trace_audit.proofs.Names.{cases_eq, ObjOp, ObjReply, Lists, Running, Ended, changed, TraceItem, Abort, Begin, Op, Commit, begun_txs, begun_txs-append, ArePlaced, HasPlace, told, begun_stays, number_in, stage-other, told-push, runs_begun, HasNothing, closings_of, ops_of, ByAbort, ByCommit, nat_tests}
 use Rattle.std.proofs.lemmas.List.Elements.{Contains-append_left}
 use Rattle.mlt_order.specs.Histories.{Stage, after_entry}
 use Rattle.mlt_trace.specs.Entries.{entry_of}
@@ -22,6 +22,9 @@ ops_own tx done items = rw (eq-eqb tx tx refl) refl
 pub closings_commit : (tx number : ℕ) (items : List TraceItem) → closings_of tx (Commit tx number ∷ items) ≡ ByCommit number ∷ closings_of tx items
 closings_commit tx number items = rw (eq-eqb tx tx refl) refl
 
+pub closings_abort : (tx : ℕ) (items : List TraceItem) → closings_of tx (Abort tx ∷ items) ≡ ByAbort ∷ closings_of tx items
+closings_abort tx items = rw (eq-eqb tx tx refl) refl
+
 -- ---- two lists of items
 
 pub ops_of-append : (tx : ℕ) (items later : List TraceItem) → ops_of tx (items ++ later) ≡ ops_of tx items ++ ops_of tx later
@@ -33,13 +36,6 @@ pub closings_of-append : (tx : ℕ) (items later : List TraceItem) → closings_
 closings_of-append tx [] later = refl
 closings_of-append tx (Begin i ∷ items) later = closings_of-append tx items later
 closings_of-append tx (other ∷ items) later = grind (arith, nat_tests, closings_of-append tx items later)
-
--- a front that has nothing makes no difference
-pub same_behind : (tx : ℕ) (front rest : List TraceItem) → HasNothing tx front → HaveSame tx (front ++ rest) rest
-same_behind tx front rest none = record {
-  ops = ops_of-append tx front rest ∙ ap (λ l. l ++ ops_of tx rest) none.ops;
-  closed = closings_of-append tx front rest ∙ ap (λ l. l ++ closings_of tx rest) none.closed;
-}
 
 pub begun_in : (items later all : List TraceItem) (tx : ℕ) → all ≡ items ++ later → Contains (begun_txs items) tx → Contains (begun_txs all) tx
 begun_in items later all tx e h =

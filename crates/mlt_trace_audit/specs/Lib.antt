@@ -1,4 +1,5 @@
 pub mod Outcomes
+pub mod Telling
 pub mod Agreement
 pub mod Ordered
 pub mod Orders

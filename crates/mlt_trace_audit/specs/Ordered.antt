@@ -1,5 +1,5 @@
 -- Histories in which transactions begin under the numbers 1, 2, 3 and so on, and each item stands behind its begin.
-use Rattle.std.specs.Prelude.{◌≡◌, ℕ, ◌+◌, ◌<◌, ◌≤◌, Bool, true, false, List, Some, count_by, length, slice_get, slice_index_or, take}
+use Rattle.std.specs.Prelude.{◌≡◌, ℕ, ◌+◌, ◌<◌, ◌≤◌, Bool, true, false, List, Some, slice_get, take}
 use Rattle.mlt_trace.specs.{declared.item.TraceItem.TraceItem, Numbers.begin_count}
 use Rattle.mlt_trace.specs.declared.item.TraceItem.TheVariants.{Begin, Op, Back, Commit, Abort}
 
@@ -18,10 +18,6 @@ is_told (Commit tx number) = true
 is_told (Abort tx) = true
 is_told other = false
 
--- how many of the items outcomes tell of
-abbrev pub told_count : List TraceItem → ℕ
-told_count items = count_by is_told items
-
 -- behind so many begins, the item is the next begin, or of a transaction that was begun
 abbrev pub StandsBehind : ℕ → TraceItem → Type 0
 StandsBehind begun (Begin tx) = tx ≡ begun + 1
@@ -31,7 +27,3 @@ StandsBehind begun item = (0 < tx_of item) × (tx_of item ≤ begun)
 -- on
 abbrev pub AreOrdered : List TraceItem → Type 0
 AreOrdered items = (k : ℕ) (item : TraceItem) → slice_get items k ≡ Some item → StandsBehind (begin_count (take k items)) item
-
--- at these places stand the begins of the transactions 1, 2, 3 and so on
-abbrev pub AreBeginsAt : List ℕ → List TraceItem → Type 0
-AreBeginsAt places items = (k : ℕ) → k < length places → slice_get items (slice_index_or places k 0) ≡ Some (Begin (k + 1))

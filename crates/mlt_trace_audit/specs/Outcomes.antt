@@ -1,5 +1,5 @@
 -- What a history has of a transaction, and the outcomes of transactions.
-use Rattle.std.specs.Prelude.{◌≡◌, ◌≢◌, ℕ, ◌<◌, List, [], ◌∷◌, ◌++◌, ◌==◌, if◌then◌else◌}
+use Rattle.std.specs.Prelude.{◌≡◌, ◌≢◌, ℕ, ◌<◌, List, [], ◌∷◌, ◌==◌, if◌then◌else◌}
 use Rattle.mlt_types.specs.declared.refusal.Refusal.{Refusal}
 use Rattle.mlt_object_kinds.specs.declared.operation.{ObjOp.ObjOp, ObjReply.ObjReply}
 use Rattle.mlt_trace.specs.declared.item.TraceItem.{TraceItem, TheVariants.Op, TheVariants.Commit, TheVariants.Abort}
@@ -39,12 +39,6 @@ pub record IsClosedSo (tx : ℕ) (done : List (ObjOp × ObjReply)) (end : End) (
 pub record HasNothing (tx : ℕ) (items : List TraceItem) : Type 0 where
   pub ops : ops_of tx items ≡ []
   pub closed : closings_of tx items ≡ []
-
--- these items have of the transaction just these operations and one close, as the end says, and then the rest
-pub record IsClosedBefore (rest : List TraceItem) (tx : ℕ) (done : List (ObjOp × ObjReply)) (end : End)
-    (items : List TraceItem) : Type 0 where
-  pub ops : ops_of tx items ≡ done ++ ops_of tx rest
-  pub closed : closings_of tx items ≡ closing_by end ∷ closings_of tx rest
 
 -- the outcome tells what the history has of its transaction
 abbrev pub IsOfHistory : List TraceItem → Outcome → Type 0

@@ -1,11 +1,12 @@
 //! Outcomes against any history. It goes over all of it for each outcome.
 
-ghost use Rattle.std.specs.Prelude.{◌≡◌, ◌≤◌, ◌↔◌, ℕ, IsTrue, All, Contains, drop, length};
+ghost use Rattle.std.specs.Prelude.{◌≡◌, ◌↔◌, ℕ, IsTrue, All, Contains};
 ghost use Rattle.mlt_trace.specs.Numbers.{begun_txs};
 ghost use Rattle.mlt_trace_audit.specs.Agreement.{AreOfHistory, IsOfBegunTx, IsOnce, NumbersAgree, count_of};
-ghost use Rattle.mlt_trace_audit.specs.Outcomes.{HasNothing, IsOfHistory};
+ghost use Rattle.mlt_trace_audit.specs.Outcomes.{IsOfHistory};
 
-use crate::outcome_items::{is_told, item_at, place_behind, tx_of};
+use crate::outcome_items::tx_of;
+use crate::progress::Progress;
 use mlt_script_serial::Outcome;
 use mlt_trace::{KeptItem, TraceItem};
 
@@ -65,20 +66,6 @@ fn are_once(outcomes: &[Outcome], history: &[KeptItem]) -> bool
     true
 }
 
-/// Whether the items from this place on have nothing of the transaction.
-fn has_nothing(history: &[KeptItem], from: usize, tx: u64) -> bool
-    requires { from ≤ length history.now }
-    ensures { IsTrue result ↔ HasNothing tx (drop from history.now) }
-{
-    for i in from..history.len() {
-        let item = item_at(history, i);
-        if is_told(&item) && tx_of(&item) == tx {
-            return false;
-        }
-    }
-    true
-}
-
 /// Whether the outcome tells what the history has of its transaction.
 fn is_of_history(outcome: &Outcome, history: &[KeptItem]) -> bool
     ensures { IsTrue result ↔ IsOfHistory history.now outcome.now }
@@ -86,10 +73,14 @@ fn is_of_history(outcome: &Outcome, history: &[KeptItem]) -> bool
     if outcome.tx == 0 {
         return true;
     }
-    match place_behind(history, 0, outcome.tx, outcome.done.as_slice(), outcome.end) {
-        Some(place) => has_nothing(history, place, outcome.tx),
-        None => false,
+    let mut progress = Progress::new();
+    for item in history {
+        let item = item.get();
+        if tx_of(&item) == outcome.tx && !progress.goes_on(outcome, &item) {
+            return false;
+        }
     }
+    progress.is_whole(outcome)
 }
 
 /// Whether each of the outcomes tells what the history has of its transaction.

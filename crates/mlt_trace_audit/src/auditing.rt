@@ -4,7 +4,7 @@ ghost use Rattle.std.specs.Prelude.{◌↔◌, IsTrue, OnOk, OnErr, IsOkUnless};
 ghost use Rattle.mlt_trace_audit.specs.Agreement.{Agrees, AreOfHistory};
 
 use crate::any::are_of_any;
-use crate::ordered::{are_of_ordered, places_of_begins};
+use crate::ordered::{are_of_ordered, begins_in_order};
 use crate::outcome_items::are_refused_without_tx;
 use crate::rising::commits_rise;
 use mlt_script_serial::Outcome;
@@ -13,19 +13,19 @@ use mlt_types::Refusal;
 use std::alloc::Global;
 
 /// Whether the outcomes tell just what the history has of each transaction begun. Where transactions begin in order, it
-/// goes over the history about once; of any other history, and where memory is refused, once for each outcome.
+/// goes over the history twice; of any other history, and where memory is refused, once for each outcome.
 fn are_of_history(alloc: Global, outcomes: &[Outcome], history: &[KeptItem]) -> bool
     ensures { IsTrue result ↔ AreOfHistory outcomes.now history.now }
 {
-    match places_of_begins(alloc, history) {
-        Some(places) => are_of_ordered(alloc, outcomes, history, places.as_slice()),
+    match begins_in_order(history) {
+        Some(begun) => are_of_ordered(alloc, outcomes, history, begun),
         None => are_of_any(outcomes, history),
     }
 }
 
 /// Whether the outcomes are those of the history: each transaction begun has one, which tells its operations
 /// and how it was closed; no other outcome but a refused and empty one stands beside them; and the commits of
-/// each client rise. It asks nothing of either list. It takes nine bytes for each transaction begun, and takes longer where these
+/// each client rise. It asks nothing of either list. It takes 24 bytes for each transaction begun, and takes longer where these
 /// are refused.
 ///
 /// # Errors

@@ -11,6 +11,7 @@ mod laws;
 mod numbers;
 mod ordered;
 mod outcome_items;
+mod progress;
 mod rising;
 
 pub use auditing::audit;

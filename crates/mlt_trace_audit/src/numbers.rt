@@ -1,7 +1,7 @@
 //! Whether the numbers of outcomes are those up to a last one, each once.
 
-ghost use Rattle.std.specs.Prelude.{◌≡◌, ◌<◌, ◌≤◌, ◌+◌, ◌↔◌, ℕ, IsTrue, All, false, replicate, length};
-ghost use Rattle.mlt_trace_audit.specs.Agreement.{count_of};
+ghost use Rattle.std.specs.Prelude.{◌≡◌, ◌<◌, ◌≤◌, ◌+◌, ◌↔◌, ℕ, IsTrue, All, replicate, length};
+ghost use Rattle.mlt_trace_audit.specs.{Agreement.count_of, Telling.ArePlacesOf};
 
 use mlt_script_serial::Outcome;
 
@@ -12,26 +12,30 @@ pub(crate) fn are_at_most(outcomes: &[Outcome], last: u64) -> bool
     outcomes.iter().all(|outcome| outcome.tx <= last)
 }
 
-fn are_set(marks: &[bool]) -> bool
-    ensures { IsTrue result ↔ All IsTrue marks.now }
+fn are_set(places: &[usize]) -> bool
+    ensures { IsTrue result ↔ All (λ place. 0 < place) places.now }
 {
-    marks.iter().all(|mark| *mark)
+    places.iter().all(|place| *place != 0)
 }
 
-/// Whether each number from 1 on, up to as many as there are marks, stands in one outcome. Of the marks none is set before.
-pub(crate) fn are_each_once(outcomes: &[Outcome], marks: &mut [bool]) -> bool
-    requires { marks.old ≡ replicate (length marks.old) false }
-    ensures { IsTrue result
-        ↔ ((k : ℕ) → k < length marks.old → count_of (k + 1) outcomes.now ≡ 1) }
+/// Whether each number from 1 on, up to as many as there are places, stands in one outcome. If so, it leaves the place of that
+/// outcome, counted from 1, for each number. No place is set before.
+pub(crate) fn are_each_once(outcomes: &[Outcome], places: &mut [usize]) -> bool
+    requires { places.old ≡ replicate (length places.old) 0 }
+    ensures size { length places.new ≡ length places.old }
+    ensures once { IsTrue result
+        ↔ ((k : ℕ) → k < length places.old → count_of (k + 1) outcomes.now ≡ 1) }
+    ensures places { IsTrue result → ArePlacesOf places.new outcomes.now }
 {
-    for outcome in outcomes {
-        if 0 < outcome.tx && outcome.tx <= marks.len() as u64 {
-            let place = (outcome.tx - 1) as usize;
-            if marks[place] {
+    for i in 0..outcomes.len() {
+        let tx = outcomes[i].tx;
+        if 0 < tx && tx <= places.len() as u64 {
+            let number = (tx - 1) as usize;
+            if places[number] != 0 {
                 return false;
             }
-            marks[place] = true;
+            places[number] = i + 1;
         }
     }
-    are_set(marks)
+    are_set(places)
 }

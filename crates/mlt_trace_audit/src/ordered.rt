@@ -1,15 +1,14 @@
-//! Outcomes against a history in which transactions begin in order. It goes over the history about once.
+//! Outcomes against a history in which transactions begin in order. It goes over the history twice.
 
-ghost use Rattle.std.specs.Prelude.{◌≡◌, ◌≤◌, ◌<◌, ◌↔◌, IsTrue, IfNone, IfSome, All, List, Some, slice_get, length, take, replicate, false};
-ghost use Rattle.mlt_trace.specs.declared.item.TraceItem.{TraceItem as ItemForm};
+ghost use Rattle.std.specs.Prelude.{◌≡◌, ◌≤◌, ◌<◌, ◌-◌, ◌↔◌, IsTrue, IfSome, All, Some, length, replicate, slice_get, slice_index_or};
 ghost use Rattle.mlt_trace.specs.Numbers.{begin_count};
 ghost use Rattle.mlt_trace_audit.specs.Agreement.{AreOfHistory, NumbersAgree};
-ghost use Rattle.mlt_trace_audit.specs.Ordered.{AreBeginsAt, AreOrdered, StandsBehind, told_count};
-ghost use Rattle.mlt_trace_audit.specs.Outcomes.{HasNothing, IsClosedBefore, IsClosedSo, IsOfHistory};
+ghost use Rattle.mlt_trace_audit.specs.{Ordered.AreOrdered, Ordered.StandsBehind, Outcomes.IsOfHistory, Telling.ArePlacesOf, Telling.IsWholeIn, Telling.nothing_told};
 
-use crate::any;
+use crate::any::are_of_any;
 use crate::numbers::{are_at_most, are_each_once};
-use crate::outcome_items::{is_told, item_at, place_behind, tx_of};
+use crate::outcome_items::{is_told, tx_of};
+use crate::progress::Progress;
 use mlt_script_serial::Outcome;
 use mlt_trace::{KeptItem, TraceItem};
 use std::alloc::Global;
@@ -25,133 +24,104 @@ fn stands_behind(begun: u64, item: &TraceItem) -> bool
     }
 }
 
-/// Where the begins of the transactions 1, 2, 3 and so on stand, if the items are in order. `None` also where a growth was
-/// refused.
-pub(crate) fn places_of_begins(alloc: Global, history: &[KeptItem]) -> Option<Vec<usize>>
+/// How many transactions begin, if the items are in order.
+pub(crate) fn begins_in_order(history: &[KeptItem]) -> Option<usize>
     ensures ordered { IfSome result (λ _. AreOrdered history.now) }
-    ensures count { IfSome result (λ places. length places.items ≡ begin_count history.now) }
-    ensures places { IfSome result (λ places. AreBeginsAt places.items history.now) }
+    ensures count { IfSome result (λ begun. begun ≡ begin_count history.now) }
 {
-    let mut places = Vec::new(alloc);
-    let mut at = 0;
+    let mut begun = 0;
     for item in history {
         let item = item.get();
-        if !stands_behind(places.len() as u64, &item) {
+        if !stands_behind(begun as u64, &item) {
             return None;
         }
         if let TraceItem::Begin(_) = item {
-            let Ok(()) = places.push(at) else {
-                return None;
-            };
+            begun += 1;
         }
-        at += 1;
     }
-    Some(places)
+    Some(begun)
 }
 
-/// How many operations and closes there are.
-fn count_told(history: &[KeptItem]) -> usize
-    ensures { result ≡ told_count history.now }
-{
-    history.iter().filter(|item| is_told(&item.get())).count()
-}
-
-/// A place before which there is nothing of the transaction: that of its begin, if there is one.
-fn place_of_begin(history: &[KeptItem], places: &[usize], tx: u64) -> usize
+/// Whether the numbers of the outcomes, but for 0, are those begun, each once. If so, it leaves the place of each one's outcome. No
+/// place is set before.
+fn numbers_agree(outcomes: &[Outcome], history: &[KeptItem], places: &mut [usize]) -> bool
     requires ordered { AreOrdered history.now }
-    requires places { AreBeginsAt places.now history.now }
-    requires some { 0 < tx }
-    ensures within { result ≤ length history.now }
-    ensures nothing { HasNothing tx (take result history.now) }
+    requires size { length places.old ≡ begin_count history.now }
+    requires none { places.old ≡ replicate (length places.old) 0 }
+    ensures size { length places.new ≡ length places.old }
+    ensures agree { IsTrue result ↔ NumbersAgree outcomes.now history.now }
+    ensures places { IsTrue result → ArePlacesOf places.new outcomes.now }
 {
-    let number = (tx - 1) as usize;
-    if number < places.len() {
-        places[number]
-    } else {
-        0
-    }
+    are_at_most(outcomes, places.len() as u64) && are_each_once(outcomes, places)
 }
 
-/// Whether the history has what the outcome tells of its transaction, and then what it may: the place behind that. Of the
-/// history it goes over those items that stand between the transaction's begin and its close.
-fn place_behind_close(outcome: &Outcome, history: &[KeptItem], places: &[usize]) -> Option<usize>
-    requires ordered { AreOrdered history.now }
-    requires places { AreBeginsAt places.now history.now }
-    requires some { 0 < outcome.now.tx }
-    ensures some { IfSome result (λ _. (rest : List ItemForm)
-        × IsClosedBefore rest outcome.now.tx outcome.now.done outcome.now.end history.now) }
-    ensures none { IfNone result
-        (IsClosedSo outcome.now.tx outcome.now.done outcome.now.end history.now → ⊥) }
+/// The outcome of the transaction with this number, counted from 0.
+fn outcome_at<'a>(outcomes: &'a [Outcome], places: &[usize], number: usize) -> &'a Outcome
+    requires places { ArePlacesOf places.now outcomes.now }
+    requires within { number < length places.now }
+    ensures { slice_get outcomes.now (slice_index_or places.now number 0 - 1) ≡ Some result.now }
 {
-    let from = place_of_begin(history, places, outcome.tx);
-    place_behind(
-        history,
-        from,
-        outcome.tx,
-        outcome.done.as_slice(),
-        outcome.end,
-    )
+    &outcomes[places[number] - 1]
 }
 
-/// As `numbers_agree`, with a mark for each number, of which none is set before.
-fn marked_numbers_agree(outcomes: &[Outcome], history: &[KeptItem], marks: &mut [bool]) -> bool
+/// Whether each of the outcomes tells what the history has of its transaction. It reads each item once, and compares it with what
+/// the outcome of its transaction tells next.
+fn are_told(
+    outcomes: &[Outcome],
+    history: &[KeptItem],
+    places: &[usize],
+    told: &mut [Progress],
+) -> bool
     requires ordered { AreOrdered history.now }
-    requires size { length marks.old ≡ begin_count history.now }
-    requires unmarked { marks.old ≡ replicate (length marks.old) false }
-    ensures { IsTrue result ↔ NumbersAgree outcomes.now history.now }
-{
-    are_at_most(outcomes, marks.len() as u64) && are_each_once(outcomes, marks)
-}
-
-/// Whether the numbers of the outcomes, but for 0, are those from 1 to the last, each once. It goes over the outcomes once, with
-/// a mark for each number; where the memory for the marks is refused, once for each number.
-fn numbers_agree(alloc: Global, outcomes: &[Outcome], history: &[KeptItem], last: usize) -> bool
-    requires ordered { AreOrdered history.now }
-    requires last { last ≡ begin_count history.now }
-    ensures { IsTrue result ↔ NumbersAgree outcomes.now history.now }
-{
-    match vec![in alloc; false; last] {
-        Ok(mut marks) => marked_numbers_agree(outcomes, history, &mut marks),
-        Err(_) => any::numbers_agree(outcomes, history),
-    }
-}
-
-/// Whether each of the outcomes tells what the history has of its transaction. That it has no more of one is found by
-/// counting: the outcomes tell as many operations and closes as the history has.
-fn are_each_of_ordered(outcomes: &[Outcome], history: &[KeptItem], places: &[usize]) -> bool
-    requires ordered { AreOrdered history.now }
-    requires places { AreBeginsAt places.now history.now }
     requires numbers { NumbersAgree outcomes.now history.now }
+    requires places { ArePlacesOf places.now outcomes.now }
+    requires size { length places.now ≡ begin_count history.now }
+    requires none { told.old ≡ replicate (length places.now) nothing_told }
     ensures { IsTrue result ↔ All (IsOfHistory history.now) outcomes.now }
 {
-    let mut left = count_told(history);
-    for outcome in outcomes {
-        if outcome.tx != 0 {
-            let own = outcome.done.as_slice().len();
-            if left <= own {
+    for item in history {
+        let item = item.get();
+        if is_told(&item) {
+            let number = (tx_of(&item) - 1) as usize;
+            let outcome = outcome_at(outcomes, places, number);
+            if !told[number].goes_on(outcome, &item) {
                 return false;
             }
-            let Some(_) = place_behind_close(outcome, history, places) else {
-                return false;
-            };
-            left -= own + 1;
         }
     }
-    left == 0
+    are_whole(outcomes, told)
 }
 
-/// Whether the outcomes tell just what the history has of each transaction begun, of which the begins stand at these places.
+/// Whether of each outcome all was told.
+fn are_whole(outcomes: &[Outcome], told: &[Progress]) -> bool
+    requires { All (λ o. o.tx ≤ length told.now) outcomes.now }
+    ensures { IsTrue result ↔ All (IsWholeIn told.now) outcomes.now }
+{
+    for outcome in outcomes {
+        if outcome.tx != 0 && !told[(outcome.tx - 1) as usize].is_whole(outcome) {
+            return false;
+        }
+    }
+    true
+}
+
+/// Whether the outcomes tell just what the history has of each transaction begun, of which there are so many. It takes 24 bytes
+/// for each, and takes longer where these are refused.
 pub(crate) fn are_of_ordered(
     alloc: Global,
     outcomes: &[Outcome],
     history: &[KeptItem],
-    places: &[usize],
+    begun: usize,
 ) -> bool
     requires ordered { AreOrdered history.now }
-    requires count { length places.now ≡ begin_count history.now }
-    requires places { AreBeginsAt places.now history.now }
+    requires count { begun ≡ begin_count history.now }
     ensures { IsTrue result ↔ AreOfHistory outcomes.now history.now }
 {
-    numbers_agree(alloc, outcomes, history, places.len())
-        && are_each_of_ordered(outcomes, history, places)
+    let Ok(mut places) = vec![in alloc; 0; begun] else {
+        return are_of_any(outcomes, history);
+    };
+    let Ok(mut told) = vec![in alloc; Progress::new(); begun] else {
+        return are_of_any(outcomes, history);
+    };
+    numbers_agree(outcomes, history, &mut places) && are_told(outcomes, history, &places, &mut told)
 }

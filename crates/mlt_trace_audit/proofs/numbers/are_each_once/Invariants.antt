@@ -1,9 +1,9 @@
-use Rattle.std.proofs.Common.{◌≡◌, length, take}
-use Rattle.mlt_trace_audit.proofs.Marks.{IsMarked}
+use Rattle.std.proofs.Common.{◌≡◌, length}
+use Rattle.mlt_trace_audit.proofs.Places.{ArePlacedSoFar}
 use Rattle.mlt_trace_audit.proofs.numbers.are_each_once.Given as goal
 
-abbrev pub invariant-loop-outcome : goal.invariant-loop-outcome
-invariant-loop-outcome l = record {
-  size : length l.marks ≡ length l.fn.marks;
-  marked : IsMarked l.marks (take l.outcome-index l.outcomes);
+abbrev pub invariant-loop-i : goal.invariant-loop-i
+invariant-loop-i l = record {
+  size : length l.places ≡ length l.fn.places;
+  placed : ArePlacedSoFar l.places l.outcomes l.i;
 }

@@ -5,7 +5,7 @@ use Rattle.mlt_object_kinds.specs.declared.packed.Packed.{Packed}
 use Rattle.mlt_object_kinds.specs.contracts.packed.OpKind as op_kinds
 use Rattle.mlt_object_kinds.specs.contracts.packed.ReplyKind as reply_kinds
 use Rattle.mlt_trace_audit.proofs.Parts.{same_by_parts}
-use Rattle.mlt_trace_audit.proofs.outcome_items.is_same.Goals as goal
+use Rattle.mlt_trace_audit.proofs.progress.is_same.Goals as goal
 
 pub returns-then-one-other-3 : goal.returns-then-one-other-3
 returns-then-one-other-3 c =
