@@ -23,7 +23,7 @@ INTERRUPTED = (
     (signal.SIGINT, "held", "serve 127.0.0.1"),
 )
 # Groups that need more than a C compiler and this program.
-NEED_MORE = {"instructions", "ablation"}
+NEED_MORE = {"instructions", "growth", "ablation"}
 # Where the load generator looks for a server.
 LOCAL = "127.0.0.1"
 # The cells of each line of a table.
@@ -93,7 +93,7 @@ def check_csv(folder: Path, rows: Rows) -> None:
         holds("cores" in row["machine"] and row["versions"] is not None, f"{row}")
 
 
-@test(seconds=25)
+@test(seconds=40)
 def each_benchmark_runs_through(mltx: Program) -> None:
     """Each group has lines with a figure, or is told to be left out, which nothing is that needs a C compiler alone."""
     plot = mltx.folder / "plot.svg"
