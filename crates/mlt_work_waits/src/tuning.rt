@@ -7,9 +7,9 @@
 /// threads.
 pub const LOCK_SPINS: u32 = 16;
 
-/// How many pauses of the processor come before each look: 3 to 14 microseconds, in which the thread that has the lock takes it for its
-/// next events. By `serve`, 8 connections, a transaction a write.
-pub const PAUSES_PER_LOCK_SPIN: u32 = 256;
+/// How many pauses of the processor come before each look: 1 to 3 microseconds, in which the thread that has the lock takes it for its
+/// next events. By `serve`, 8 connections, a transaction a write; and by `connections`, 64 connections of 4 threads.
+pub const PAUSES_PER_LOCK_SPIN: u32 = 64;
 
 // The turns of the workers of `run`, of `mlt_work`.
 
