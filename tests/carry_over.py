@@ -418,14 +418,14 @@ def all_objects(server: Server, query: str) -> list[list[tuple[int, int | None]]
     place: int | None = 0
     while place is not None:
         listed, following = objects(server, f"{query}&from={place}")
-        holds(following is None or place < following < 2**16, f"{following} behind {place}")
+        holds(following is None or place < following < 2**32, f"{following} behind {place}")
         answers.append(listed)
         place = following
     return answers
 
 
 NO_LISTS = [
-    *("", "kind=size", "kind=set", "kind=set&of=65536", "kind=account&from=-1", "kind=account&from=65536", "of=7", "kind"),
+    *("", "kind=size", "kind=set", "kind=set&of=65536", "kind=account&from=-1", "kind=account&from=4294967296", "of=7", "kind"),
     *("kind=account&of=7", "kind=set&of=7&of=8", "kind=account&kind=account", "kind=account&x=1", "kind=account&from=1&from=1"),
     *("kind=account&", "kind=%61ccount"),
 ]
@@ -459,6 +459,21 @@ def objects_place_by_place(mltx: Program) -> None:
             status, kind, body = answer(server, "/base?" + query)
             same((status, kind), (400, TEXT), query)
             holds(body.startswith(b"Expected /base?kind=account, "), f"{body!r}")
+
+
+@test
+def objects_from_a_place_on(mltx: Program) -> None:
+    """A place is the first 32 bits of a pseudokey: with `low` those of account a are a mod 2^16, and 16 zeros. A list has just
+    the objects from its place on, also where others of their buckets are before it."""
+    numbers = [*range(300), 65_536 + 7]
+    base = "".join(f"account {number} 1\n" for number in numbers)
+    with operated(mltx, "--hash", "low", "--load", mltx.file("base", base)) as server:
+        comes(server, "/status", lambda told: told["loading"] == 0, "the base is loaded")
+        for first in (0, 1, 7, 8, 150, 299):
+            for place, least in ((first << 16, first), ((first << 16) + 1, first + 1), ((first << 16) + 65_535, first + 1)):
+                there = [(number, 1) for number in numbers if number % 65_536 >= least]
+                same(objects(server, f"kind=account&from={place}"), (there, None), f"accounts from place {place} on")
+        same(objects(server, f"kind=account&from={2**32 - 1}"), ([], None), "accounts from the last place on")
 
 
 @test(seconds=2)

@@ -1,23 +1,63 @@
 -- The slots of the clean buckets, listed by the places of the directory, show the base to which the history leads
-use Rattle.std.proofs.Common.{◌≡◌, ◌⊎◌, ℕ, ◌+◌, ◌<◌, ◌≤◌, ◌/◌, ◌%◌, ◌-◌, ◌*◌, ◌^◌, List, [], ◌++◌, Contains, slice_index, Option, None, Some, refl, sym, ap, subst, ◌∙◌, inl, inr, arith, nat_cmp}
-use Rattle.std.proofs.{Math.Nat.div-lt_iff_lt-mul, lemmas.Nat.pow-add, lemmas.Nat.pow_pos}
-use Rattle.std.proofs.lemmas.{Bool.cases_lt, List.Elements.Contains-append_cases, List.Elements.Contains-append_left, List.Elements.Contains-append_right}
+use Rattle.std.proofs.Common.{◌≡◌, ◌⊎◌, ℕ, true, ◌+◌, ◌<◌, ◌≤◌, ◌/◌, ◌%◌, ◌^◌, List, [], ◌∷◌, ◌++◌, Contains, slice_index, get_or, Option, None, Some, option_to_list, Bool, cond, eqb, eqb-true, eq-eqb, zero, suc, refl, sym, ap, subst, ◌∙◌, inl, inr, arith, nat_cmp}
+use Rattle.std.proofs.lemmas.{Bool.both_ways, Bool.cases_Bool, Bool.cases_lt, Bool.cond-false, Bool.cond-true, List.Elements.Contains-append_cases, List.Elements.Contains-append_left, List.Elements.Contains-append_right}
 use Rattle.mlt_manager.proofs.Names.{pow-le-pow_right, Cell, Account, Element, Counter, Size, IsInRange, key_number, state_at, Means, IsRecord, state_of_record, BucketFields, HeadFields, Page, Slot, FilePages, GivesPseudokeys, HasForm, bucket_of, header_of, live_records, clean_pages, AreSlotsOf, HasCleanPage, HasCleanPages, HasDepth, IsManager, ManagerFields}
 use Rattle.std.specs.FinMap as map
 use Rattle.mlt_object_base.proofs.Meanings.{below_or_not}
-use Rattle.mlt_page.specs.{Bits.first_bits, declared.slot.Slot.TheVariants.Live}
+use Rattle.mlt_page.specs.{Bits.first_bits, declared.slot.Slot.TheVariants.Free, declared.slot.Slot.TheVariants.Ghost, declared.slot.Slot.TheVariants.Live, Slots.key_of}
 use Rattle.mlt_page_locks.proofs.Maps.{same_entries}
-use Rattle.mlt_hash_form.specs.File.{buckets_of, depth_of, dirs_of, entries_of, entry, lead_of}
-use Rattle.mlt_hash_form.{specs.Form.value_in, proofs.Bits.first_bits-with_first_bits, proofs.Bits.first_bits_below, proofs.Bits.with_first_bits, proofs.Bits.with_first_bits_below, proofs.Lookup.found as record_found, proofs.Lookup.live_from_value, proofs.MapChanges.map_is_look_up, proofs.Paths.path_of}
+use Rattle.mlt_hash_form.specs.{File.buckets_of, File.depth_of, File.dirs_of, File.entries_of, File.entry, File.lead_of, File.look_up, Form.is_used, Form.slot_at}
+use Rattle.mlt_hash_form.{specs.Form.value_in, proofs.Bits.first_bits-with_first_bits, proofs.Bits.first_bits_below, proofs.Bits.with_first_bits, proofs.Bits.with_first_bits_below, proofs.Lookup.found as record_found, proofs.Lookup.live_from_value, proofs.Lookup.value_from_live, proofs.MapChanges.map_is_look_up, proofs.Paths.path_of}
 use Rattle.mlt_manager_invariant.specs.Copies.{HasLive}
-use Rattle.mlt_manager.{specs.CleanBuckets.IsCleanBucket, specs.CleanBuckets.IsCleanDirectory, specs.CleanBuckets.IsCleanHead, specs.CleanBuckets.IsTrueOfClean, specs.Images.HasSlotsBelow, specs.Images.ShowState, proofs.CleanPages.pages_clean, proofs.CleanPages.same_clean, proofs.Headline.contained, proofs.Headline.record_of_slot}
+use Rattle.mlt_manager.{specs.CleanBuckets.IsCleanBucket, specs.CleanBuckets.IsCleanDirectory, specs.CleanBuckets.IsBucketOfPseudokey, specs.CleanBuckets.IsCleanHead, specs.CleanBuckets.IsTrueOfClean, specs.CleanBuckets.live_value, specs.CleanBuckets.live_values, specs.Images.HasSlotsBelow, specs.Images.ShowState, proofs.CleanPages.pages_clean, proofs.CleanPages.same_clean, proofs.Headline.contained, proofs.Headline.record_of_slot}
 
--- the place to which the first bits of pseudokeys lead is one of the directory
-pub place_of_prefix : (prefix depth : ℕ) → depth ≤ 16 → prefix < 2 ^ 16 → prefix / 2 ^ (16 - depth) < 2 ^ depth
-place_of_prefix prefix depth low few =
-    let sum : depth + (16 - depth) ≡ 16 = omega (arith, low) in
-    let whole : 2 ^ 16 ≡ 2 ^ depth * 2 ^ (16 - depth) = sym (ap (λ (n : ℕ). 2 ^ n) sum) ∙ pow-add 2 depth (16 - depth) in
-    (div-lt_iff_lt-mul {k = 2 ^ (16 - depth)} {x = prefix} {y = 2 ^ depth} (pow_pos (16 - depth))).1 (subst (λ (n : ℕ). prefix < n) whole few)
+-- where no slot is a live one of a key it has no values,
+values_none : (key : ℕ) (slots : List Slot) → ((i value : ℕ) → get_or slots i Free ≡ Live key value → ⊥) → live_values key slots ≡ []
+values_none key [] none = refl
+values_none key (slot ∷ rest) none =
+    ap (λ (l : List ℕ). l ++ live_values key rest) (first slot refl) ∙ values_none key rest (λ i value is. none (suc i) value is)
+  where
+    first : (s : Slot) → slot ≡ s → live_value key s ≡ []
+    first Free is = refl
+    first (Ghost other value owner) is = refl
+    first (Live other value) is =
+        elim (cases_Bool (eqb other key)) [
+          | inl same ↦ absurd (none 0 value (is ∙ ap (λ (k : ℕ). Live k value) (eqb-true other key same)))
+          | inr not ↦ cond-false _ _ _ not
+        ]
+
+-- and else that of the only one
+values_one : (key value i : ℕ) (slots : List Slot) → ((i j v w : ℕ) → get_or slots i Free ≡ Live key v → get_or slots j Free ≡ Live key w → i ≡ j) → get_or slots i Free ≡ Live key value → live_values key slots ≡ value ∷ []
+values_one key value i [] alone is = (let none : Free ≡ Live key value = is in cc)
+values_one key value zero (slot ∷ rest) alone is =
+    ap (λ (s : Slot). live_value key s ++ live_values key rest) is
+    ∙ ap (λ (l : List ℕ). l ++ live_values key rest) (cond-true _ _ _ (eq-eqb key key refl))
+    ∙ ap (λ (l : List ℕ). value ∷ l) (values_none key rest (λ j w at. absurd (let apart = alone 0 (suc j) value w is at in omega (arith, apart))))
+values_one key value (suc i) (slot ∷ rest) alone is =
+    ap (λ (l : List ℕ). l ++ live_values key rest) (first slot refl) ∙ values_one key value i rest (λ a b v w one two. let same = alone (suc a) (suc b) v w one two in omega (arith, same)) is
+  where
+    first : (s : Slot) → slot ≡ s → live_value key s ≡ []
+    first Free at = refl
+    first (Ghost other v owner) at = refl
+    first (Live other v) at =
+        elim (cases_Bool (eqb other key)) [
+          | inl same ↦ absurd (let apart = alone 0 (suc i) v value (at ∙ ap (λ (k : ℕ). Live k v) (eqb-true other key same)) is in omega (arith, apart))
+          | inr not ↦ cond-false _ _ _ not
+        ]
+
+-- so they are what is found of the key
+values_are : (key : ℕ) (slots : List Slot) → ((i j v w : ℕ) → get_or slots i Free ≡ Live key v → get_or slots j Free ≡ Live key w → i ≡ j) → live_values key slots ≡ option_to_list (value_in key slots)
+values_are key slots alone = by (value_in key slots) refl
+  where
+    by : (o : Option ℕ) → value_in key slots ≡ o → live_values key slots ≡ option_to_list o
+    by None is = values_none key slots (λ i value at.
+        let some = value_from_live key value i slots (λ j w also. alone i j value w at also) at in
+        let wrong : None ≡ Some value = sym is ∙ some in cc)
+    by (Some value) is = let at = live_from_value key value slots is in values_one key value at.0 slots alone at.1
+
+-- a live slot is used
+live_used : (key value : ℕ) (s : Slot) → s ≡ Live key value → is_used s ≡ true
+live_used key value s is = ap is_used is
 
 in_range_or_not : (c : Cell) → IsInRange c ⊎ (IsInRange c → ⊥)
 in_range_or_not (Account a) = below_or_not a (2 ^ 32)
@@ -167,6 +207,64 @@ module _ {P : Type 0} (bits_of : P → ℕ → ℕ) (m : ManagerFields P) (h : I
       ap (λ (x : Option Page). pages (slice_index (header_of x).dirs (place / 256))) way.head ∙ way.listed in
       let at : entry pages (dirs_of pages m.root.page) place ≡ slice_index way.dir (place % 256) = ap (λ (x : Option Page). slice_index (entries_of x) (place % 256)) listed in
       (way.bucket, is_of_clean (λ pages. pages (entry pages (dirs_of pages m.root.page) place) ≡ Some (Page.Bucket way.bucket)) (ap pages at ∙ way.found))
+
+  -- ---- the bucket of a pseudokey
+
+  -- a live slot of the bucket on this page is of a key that leads there
+  leads_there : (n i key value : ℕ) (bucket : BucketFields) → buckets_of pages n ≡ bucket → get_or bucket.slots i Free ≡ Live key value → lead_of pages m.root.page (bits key) ≡ n
+  leads_there n i key value bucket here at =
+      let is : slot_at (buckets_of pages) n i ≡ Live key value = ap (λ (b : BucketFields). get_or b.slots i Free) here ∙ at in
+      ap (λ (s : Slot). lead_of pages m.root.page (bits (key_of s))) (sym is) ∙ form.form.home n i (live_used key value (slot_at (buckets_of pages) n i) is)
+
+  module _ (x d : ℕ) (few : x < 2 ^ 64) (is : HasDepth m d) (bucket : BucketFields) (is_bucket : IsCleanBucket m (first_bits d x) bucket) where
+    abbrev lead : ℕ
+    lead = lead_of pages m.root.page x
+
+    there : pages lead ≡ Some (Page.Bucket bucket)
+    there = subst (λ (k : ℕ). pages (entry pages (dirs_of pages m.root.page) (first_bits k x)) ≡ Some (Page.Bucket bucket)) (depth_is d is) (is_bucket clean all_clean)
+
+    here : buckets_of pages lead ≡ bucket
+    here = ap bucket_of there
+
+    alone : (key i j value other : ℕ) → get_or bucket.slots i Free ≡ Live key value → get_or bucket.slots j Free ≡ Live key other → i ≡ j
+    alone key i j value other one two =
+        form.form.once lead i j key value other
+        (ap (λ (b : BucketFields). get_or b.slots i Free) here ∙ one)
+        (ap (λ (b : BucketFields). get_or b.slots j Free) here ∙ two)
+
+    -- whether the pseudokey of a key begins with the same bits
+    abbrev agrees : ℕ → Bool
+    agrees key = eqb (first_bits bucket.depth (bits key)) (first_bits bucket.depth x)
+
+    has_key : (key : ℕ) → live_values key bucket.slots ≡ cond (agrees key) (option_to_list (look_up bits pages m.root.page key)) []
+    has_key key =
+        elim (cases_Bool (agrees key)) [
+          | inl same ↦
+              let agree : first_bits (buckets_of pages lead).depth x ≡ first_bits (buckets_of pages lead).depth (bits key) =
+              subst (λ (b : BucketFields). first_bits b.depth x ≡ first_bits b.depth (bits key)) (sym here) (sym (eqb-true _ _ same)) in
+              let leads : lead ≡ lead_of pages m.root.page (bits key) = form.form.together x (bits key) few (bounded key) agree in
+              let read : look_up bits pages m.root.page key ≡ value_in key bucket.slots =
+              ap (λ (q : ℕ). value_in key (buckets_of pages q).slots) (sym leads) ∙ ap (λ (b : BucketFields). value_in key b.slots) here in
+              values_are key bucket.slots (alone key) ∙ ap option_to_list (sym read) ∙ sym (cond-true _ _ _ same)
+          | inr not ↦
+              values_none key bucket.slots (λ i value at.
+              let leads = leads_there lead i key value bucket here at in
+              let agree = form.form.apart x (bits key) few (bounded key) (sym leads) in
+              both_ways _ not (eq-eqb _ _ (sym (subst (λ (b : BucketFields). first_bits b.depth x ≡ first_bits b.depth (bits key)) here agree))))
+              ∙ sym (cond-false _ _ _ not)
+        ]
+
+    -- **The bucket at the place of a pseudokey is that of the pseudokey.**
+    pub is_of_pseudokey : IsBucketOfPseudokey bits_of m x bucket
+    is_of_pseudokey =
+        let deep : bucket.depth ≤ depth = subst (λ (b : BucketFields). b.depth ≤ depth) here (form.form.fine x few) in
+        record {
+          leads = is_of_clean (λ pages. pages (lead_of pages m.root.page x) ≡ Some (Page.Bucket bucket)) there;
+          shallow = omega (arith, deep, form.listed.small);
+          has = λ found finds key.
+              is_of_clean (λ pages. (key : ℕ) → live_values key bucket.slots ≡ cond (agrees key) (option_to_list (look_up bits pages m.root.page key)) []) has_key finds.clean finds.is_clean key
+              ∙ ap (λ (o : Option ℕ). cond (agrees key) (option_to_list o) []) (finds.finds key);
+        }
 
   pub none_listed : HasSlotsBelow m [] 0
   none_listed = record { all = λ place bucket slot before. absurd (omega (arith, before)); only = λ slot none. absurd (omega (arith, none.1)) }

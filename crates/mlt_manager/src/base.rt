@@ -2,13 +2,14 @@
 
 ghost use Rattle.std.specs.Prelude.{◌≡◌, ◌<◌, ◌≤◌, ◌^◌, ℕ, IfOk, IsOkUnless};
 ghost use Rattle.mlt_manager.specs.Bases.{HasDepth};
-ghost use Rattle.mlt_manager.specs.CleanBuckets.{IsBucketOfPrefix, IsCleanBucket, IsCleanDirectory, IsCleanHead};
+ghost use Rattle.mlt_manager.specs.CleanBuckets.{IsBucketOfPseudokey, IsCleanBucket, IsCleanDirectory, IsCleanHead};
 ghost use Rattle.mlt_manager.specs.Images.{IsImageAt, ShowState};
 ghost use Rattle.mlt_manager.specs.Managers.{IsManager};
 ghost use Rattle.mlt_manager.specs.Parts.{fields_of};
 
 use crate::image::BaseImage;
 use crate::parts::Parts;
+use mlt_hash_form::first_bits;
 use mlt_page::{Bucket, DIR_ENTRIES, DirPage, HeadPage, Page, SLOTS, Slot};
 use mlt_types::{Pseudo, Refusal};
 
@@ -111,12 +112,12 @@ impl<P: Pseudo> Parts<P> {
         bucket
     }
 
-    /// The bucket of the pseudokeys that begin with these bits, on the clean pages.
-    pub(crate) fn bucket_of(&self, prefix: u16) -> &Bucket
+    /// The bucket that a pseudokey leads to, on the clean pages.
+    pub(crate) fn bucket_of(&self, pseudokey: u64) -> &Bucket
         requires sound { IsManager P.bits_of (fields_of self.now) }
-        ensures bucket { IsBucketOfPrefix (fields_of self.now) prefix result.now }
+        ensures bucket { IsBucketOfPseudokey P.bits_of (fields_of self.now) pseudokey result.now }
     {
-        let place = usize::from(prefix) >> (16 - self.depth());
+        let place = first_bits(pseudokey, self.depth()) as usize;
         let directory = self.clean_directory(place);
         self.bucket_in(directory, place)
     }

@@ -7,7 +7,7 @@ ghost use Rattle.mlt_trace.specs.Numbers.{AreBegunInOrder};
 ghost use Rattle.mlt_tx.specs.{Standing.standing_in, Tables.KeepsImage, Tables.KeepsNoImage};
 ghost use Rattle.mlt_manager.specs.Answers.{AnswersAbort, AnswersBegin, AnswersCall, AnswersCancel, AnswersCommit, AnswersStep, IsByAnother, counted};
 ghost use Rattle.mlt_manager.specs.Bases.{HasDepth, KeepsWhatCounts, LeavesBase, UndoingLeavesBase, WholeLeavesBase};
-ghost use Rattle.mlt_manager.specs.CleanBuckets.{IsBucketOfPrefix};
+ghost use Rattle.mlt_manager.specs.CleanBuckets.{IsBucketOfPseudokey};
 ghost use Rattle.mlt_manager.specs.Courses.{HasAdded, KeepsPromiseOver, Tells, TellsAll, course_of, opening_course};
 ghost use Rattle.mlt_manager.specs.Events.{AreWholeEvents, Meets, NoneWaits, Plays, told_of};
 ghost use Rattle.mlt_manager.specs.HandingOut.{HandsOut};
@@ -27,7 +27,7 @@ use mlt_object_kinds::{Done, ObjOp};
 use mlt_page::{Bucket, Page, Store};
 use mlt_trace::KeptItem;
 use mlt_trace_check::{history_passes_the_checker, placed_items_are_writable};
-use mlt_types::{Limits, PageNo, Pseudo, Refusal, TxId};
+use mlt_types::{Key, Limits, PageNo, Pseudo, Refusal, TxId};
 use std::alloc::Global;
 use std::marker::Model;
 
@@ -362,12 +362,19 @@ impl<P: Pseudo> Manager<P> {
         self.parts.image()
     }
 
-    /// The bucket of the pseudokeys that begin with these 16 bits, on the clean pages: they agree with it in as many bits as its depth
-    /// says. It takes no memory.
-    pub fn bucket_of(&self, prefix: u16) -> &Bucket
-        ensures bucket { IsBucketOfPrefix self.now prefix result.now }
+    /// The bucket that a pseudokey leads to, on the clean pages: it has the records whose pseudokeys agree with this one in as many
+    /// bits as its depth says, at most 32. It takes no memory.
+    pub fn bucket_of(&self, pseudokey: u64) -> &Bucket
+        ensures bucket { IsBucketOfPseudokey P.bits_of self.now pseudokey result.now }
     {
-        self.parts.bucket_of(prefix)
+        self.parts.bucket_of(pseudokey)
+    }
+
+    /// The pseudokey of a key.
+    pub fn pseudokey_of(&self, key: &Key) -> u64
+        ensures { result ≡ P.bits_of self.now.root.pseudo key.now }
+    {
+        self.parts.root.pseudo.bits(key)
     }
 
     /// What is promised of every manager, between any two events.

@@ -4,7 +4,7 @@ use crate::operating::{Admin, BaseFile};
 use crate::service::{Service, elapsed};
 use mlt_object_base::Base;
 use mlt_object_kinds::Done;
-use mlt_page::{Bucket, Slot};
+use mlt_page::SLOTS;
 use mlt_script_serial::Outcome;
 use mlt_serve_admin::{
     Counts, NotSaved, ObjectView, ObjectsView, Operated, ServerView, SessionView, TransactionView,
@@ -13,7 +13,7 @@ use mlt_serve_admin::{
 use mlt_serve_connections::{Cut, Note, SeatRecord, refuse_all};
 use mlt_trace::KeptItem;
 use mlt_types::{Pseudo, Refusal};
-use mlt_work_desk::{DeskStatistics, MadeWith};
+use mlt_work_desk::{DeskStatistics, ListedRecord, MadeWith};
 use mlt_work_waits::Waiting;
 use mlt_work_waits::tuning::{
     BUCKETS_PER_HOLD, HOLDS_PER_LIST, LIST_PAUSE_MICROSECONDS, MOST_CLIENTS_LISTED,
@@ -45,7 +45,7 @@ pub(crate) struct Operator<'a, 'b, 'c, 'd, P: Pseudo, L: MadeWith<P>, R: Wait + 
     save: Option<&'d Mutex<F>>,
     /// Since when the server listens, if a clock could say so.
     since: Option<Instant>,
-    /// Whoever has it copies buckets for a list.
+    /// Whoever has it copies records for a list.
     listing: Mutex<()>,
     /// Whether the server is over.
     is_over: AtomicBool,
@@ -105,19 +105,19 @@ impl<'a, 'b, 'c, 'd, P: Pseudo, L: MadeWith<P>, R: Wait + Clock, F: BaseFile> Op
         Ok((image.base()?, image.commits()))
     }
 
-    /// Adds the next buckets from this place on, and pauses: so all lists together have the manager's lock for a small part of the time,
-    /// however many are asked for. Returns the place of the next one, if there are more.
+    /// Adds the next records from this place on, and pauses: so all lists together have the manager's lock for a small part of the time,
+    /// however many are asked for. Returns the place behind them, if there is one.
     ///
     /// # Errors
     /// Where a growth is refused.
-    fn copy_buckets(
+    fn copy_records(
         &self,
-        from: u16,
-        buckets: &mut Vec<Bucket>,
-    ) -> Result<Option<u16>, AllocError> {
+        from: u32,
+        records: &mut Vec<ListedRecord>,
+    ) -> Result<Option<u32>, AllocError> {
         let shared = self.service.shared;
         let listing = self.listing.lock(self.rt);
-        let next = shared.copy_buckets(self.rt, from, BUCKETS_PER_HOLD, buckets);
+        let next = shared.copy_records(self.rt, from, BUCKETS_PER_HOLD, records);
         thread::sleep(self.rt, Duration::from_micros(LIST_PAUSE_MICROSECONDS));
         drop(listing);
         next
@@ -244,7 +244,7 @@ impl<P: Pseudo, L: MadeWith<P>, R: Wait + Clock, F: BaseFile> Operated
 
     fn objects(&self, alloc: Global, wanted: &WantedObjects) -> Result<ObjectsView, AllocError> {
         let mut objects = Vec::new(alloc);
-        let mut buckets = Vec::with_capacity(alloc, BUCKETS_PER_HOLD)?;
+        let mut records = Vec::with_capacity(alloc, BUCKETS_PER_HOLD * SLOTS)?;
         let mut next = Some(wanted.from);
         for _ in 0..HOLDS_PER_LIST {
             let Some(from) = next else {
@@ -253,11 +253,9 @@ impl<P: Pseudo, L: MadeWith<P>, R: Wait + Clock, F: BaseFile> Operated
             if objects.len() >= wanted.enough {
                 break;
             }
-            buckets.clear();
-            next = self.copy_buckets(from, &mut buckets)?;
-            for bucket in &buckets {
-                push_objects(&mut objects, bucket, wanted)?;
-            }
+            records.clear();
+            next = self.copy_records(from, &mut records)?;
+            push_objects(&mut objects, &records, wanted)?;
         }
         Ok(ObjectsView { objects, next })
     }
@@ -301,18 +299,18 @@ fn open_address(listener: &TcpListener) -> Option<SocketAddr> {
     (!is_loopback).then_some(address)
 }
 
-/// Adds the objects of a bucket that are wanted.
+/// Adds the objects of these records that are wanted.
 fn push_objects(
     objects: &mut Vec<ObjectView>,
-    bucket: &Bucket,
+    records: &[ListedRecord],
     wanted: &WantedObjects,
 ) -> Result<(), AllocError> {
-    for slot in &bucket.slots {
-        if let Slot::Live(key, value) = *slot {
-            let key = key.number();
-            if wanted.first <= key && key <= wanted.last {
-                objects.push(ObjectView { key, value })?;
-            }
+    for ListedRecord { key, value } in records {
+        if (wanted.first..=wanted.last).contains(key) {
+            objects.push(ObjectView {
+                key: *key,
+                value: *value,
+            })?;
         }
     }
     Ok(())

@@ -25,7 +25,7 @@ pub(crate) struct Sessions {
 pub(crate) struct Objects {
     pub(crate) objects: Vec<NumberedObject>,
     /// The place from which the next ones are listed, if there may be more.
-    pub(crate) next: Option<u16>,
+    pub(crate) next: Option<u32>,
 }
 
 /// An object of a kind.

@@ -15,7 +15,7 @@ pub(crate) const LISTINGS: &str =
 #[derive(Clone, Copy)]
 pub(crate) struct Listing {
     kind: ListedKind,
-    from: u16,
+    from: u32,
 }
 
 /// Of which kind they are.
@@ -81,7 +81,7 @@ impl Listing {
             (b"set", Some(set)) => ListedKind::Elements(set.parse::<u16>().ok()?),
             _ => return None,
         };
-        let from = from.unwrap_or("0").parse::<u16>().ok()?;
+        let from = from.unwrap_or("0").parse::<u32>().ok()?;
         Some(Listing { kind, from })
     }
 

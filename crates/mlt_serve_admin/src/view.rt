@@ -23,8 +23,8 @@ pub struct ServerView {
 /// Which objects are to be listed.
 #[derive(Clone, Copy)]
 pub struct WantedObjects {
-    /// The place from which they are listed.
-    pub from: u16,
+    /// The place from which they are listed: the first 32 bits of pseudokeys.
+    pub from: u32,
     /// The number of the first key.
     pub first: u64,
     /// The number of the last key.
@@ -39,7 +39,7 @@ pub struct ObjectsView {
     /// These.
     pub objects: Vec<ObjectView>,
     /// The place from which the next ones are listed, if there may be more.
-    pub next: Option<u16>,
+    pub next: Option<u32>,
 }
 
 /// The record of an object.

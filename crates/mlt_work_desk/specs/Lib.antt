@@ -2,6 +2,7 @@ pub mod Prefixes
 pub mod LogHandles
 pub mod Acts
 pub mod Holds
+pub mod Listings
 pub mod Statistics
 pub mod Makings
 pub mod Tries

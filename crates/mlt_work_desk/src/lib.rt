@@ -14,6 +14,7 @@
 mod blank_records;
 mod calls;
 mod holds;
+mod listing;
 mod lock_desk;
 mod locked_state;
 mod log;
@@ -25,6 +26,7 @@ mod tries;
 mod unlocked;
 
 pub use blank_records::BlankRecords;
+pub use listing::{ListedRecord, a_list_tells_each_key_once};
 pub use lock_desk::LockDesk;
 pub use locked_state::LockedState;
 pub use log_handles::{Growth, HistoryLog, LogSnapshot, LogWriter};

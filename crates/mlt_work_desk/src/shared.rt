@@ -5,13 +5,13 @@ ghost use Rattle.mlt_work_desk.specs.LogHandles.{IsOf, begun_by, id_of, seen_by}
 ghost use Rattle.mlt_work_desk.specs.Makings.{making_of};
 ghost use Rattle.mlt_work_desk.specs.Playing.{IsMade};
 
+use crate::listing::ListedRecord;
 use crate::locked_state::LockedState;
 use crate::log_handles::{HistoryLog, LogSnapshot};
 use crate::made_with::MadeWith;
 use crate::statistics::DeskStatistics;
 use crate::unlocked::Unlocked;
 use mlt_manager::{BaseImage, Manager};
-use mlt_page::Bucket;
 use mlt_trace::KeptItem;
 use mlt_types::{Pseudo, Refusal, TxId};
 use mlt_work_waits::tuning::{LOCK_SPINS, PAUSES_PER_LOCK_SPIN};
@@ -139,21 +139,21 @@ impl<P: Pseudo, L: MadeWith<P>> Shared<P, L> {
         state.image()
     }
 
-    /// Adds the buckets, as running operations found them, of the pseudokeys that begin with these 16 bits or with greater ones, at
-    /// most so many, in order. Returns with which bits the next one begins, if there are more: a bucket is split within its bits, so that
-    /// a later call misses no record and repeats none. It takes the lock once, and is no event.
+    /// Adds the records, as running operations found them, from a place on, of at most so many buckets. Returns the place behind
+    /// them, from which a later call goes on, if there is one: so calls from place 0 to the end tell each record once that is there
+    /// all the time. The place of a record is the first 32 bits of its pseudokey. It takes the lock once, and is no event.
     ///
     /// # Errors
     /// Where a growth is refused, then fewer are added.
-    pub fn copy_buckets<R: Wait>(
+    pub fn copy_records<R: Wait>(
         &self,
         rt: &R,
-        from: u16,
+        from: u32,
         most: usize,
-        buckets: &mut Vec<Bucket>,
-    ) -> Result<Option<u16>, AllocError> {
+        records: &mut Vec<ListedRecord>,
+    ) -> Result<Option<u32>, AllocError> {
         let state = self.lock(rt);
-        state.copy_buckets(from, most, buckets)
+        state.copy_records(from, most, records)
     }
 
     /// Adds the items of the history that are kept, from this place among them on, at most so many. It takes the lock once, and is no

@@ -1,17 +1,16 @@
 //! What can be seen of a manager under its lock, without an event.
 
-ghost use Rattle.std.specs.Prelude.{◌≡◌, ◌≤◌, ◌+◌, ◌++◌, true, IfOk, IsOkUnless, OnOk, Some, length};
+ghost use Rattle.std.specs.Prelude.{◌≡◌, ◌≤◌, ◌+◌, ◌++◌, true, IfOk, IsOkUnless, OnOk, length};
 ghost use Rattle.std.specs.FinMap as map;
 ghost use Rattle.mlt_manager.specs.Bases.{HasDepth};
 ghost use Rattle.mlt_manager.specs.HandingOut.{HandsOut};
 ghost use Rattle.mlt_manager.specs.Images.{IsImageAt};
-ghost use Rattle.mlt_work_desk.specs.Statistics.{AddsBuckets, AddsKept, prefix_behind};
+ghost use Rattle.mlt_work_desk.specs.Statistics.{AddsKept};
 
 use crate::locked_state::LockedState;
 use crate::made_with::MadeWith;
 use arrayvec::ArrayVec;
 use mlt_manager::BaseImage;
-use mlt_page::Bucket;
 use mlt_trace::KeptItem;
 use mlt_types::{Pseudo, Refusal};
 use mlt_work_waits::Waiting;
@@ -66,44 +65,6 @@ impl<P: Pseudo, L: MadeWith<P>> LockedState<P, L> {
         self.manager.image()
     }
 
-    /// Adds the buckets, as running operations found them, of the pseudokeys that begin with these 16 bits or with greater ones, at
-    /// most so many, in order. Returns with which bits the next one begins, if there are more.
-    ///
-    /// # Errors
-    /// Where a growth is refused, then fewer are added.
-    pub(crate) fn copy_buckets(
-        &self,
-        from: u16,
-        most: usize,
-        buckets: &mut Vec<Bucket>,
-    ) -> Result<Option<u16>, AllocError>
-        ensures { IfOk result (AddsBuckets self.now.manager (Some from)
-            buckets.old.items buckets.new.items) }
-    {
-        let mut next = Some(from);
-        for _ in 0..most {
-            let Some(prefix) = next else {
-                return Ok(None);
-            };
-            next = self.copy_bucket(prefix, buckets)?;
-        }
-        Ok(next)
-    }
-
-    /// Adds the bucket, as running operations found it, of the pseudokeys that begin with these 16 bits, and returns which follow those
-    /// with which its pseudokeys begin, if there are any.
-    ///
-    /// # Errors
-    /// Where a growth is refused.
-    fn copy_bucket(&self, prefix: u16, buckets: &mut Vec<Bucket>) -> Result<Option<u16>, AllocError>
-        ensures { IfOk result (AddsBuckets self.now.manager (Some prefix)
-            buckets.old.items buckets.new.items) }
-    {
-        let bucket = self.manager.bucket_of(prefix);
-        buckets.push(*bucket)?;
-        Ok(prefix_behind(prefix, bucket.depth))
-    }
-
     /// Adds the items of the history that are kept, from this place among them on, at most so many.
     ///
     /// # Errors
@@ -140,16 +101,6 @@ impl<P: Pseudo, L: MadeWith<P>> LockedState<P, L> {
     {
         self.manager.take_history(items)
     }
-}
-
-/// The 16 bits that follow those with which the pseudokeys of a bucket begin, by its depth and one of these, if there are any.
-fn prefix_behind(prefix: u16, depth: u8) -> Option<u16>
-    ensures { result ≡ prefix_behind prefix depth }
-{
-    let prefix = u32::from(prefix);
-    let count = 1_u32 << 16_u8.saturating_sub(depth);
-    let behind = prefix - prefix % count + count;
-    u16::try_from(behind).ok()
 }
 
 /// These waits once more.
