@@ -3,14 +3,16 @@
 What the program says is compared with a small model of the tables. The main test is the promise of the program, seen
 from outside: the committed transactions, run alone in the order of their commits, give exactly the replies that they
 were told, and lead to the base that is printed. `tests/run --seed N NAME` repeats a test that failed; its message shows
-the text."""
+the text. Where hypothesis is installed, that is the smallest script or schedule which it found to fail."""
+import importlib
 import random
 import re
-from collections.abc import Iterable, Iterator
+from collections.abc import Callable, Iterable, Iterator
 from concurrent.futures import ThreadPoolExecutor
 from contextlib import contextmanager
 from dataclasses import dataclass, field
 from random import Random
+from typing import Any
 
 import harness
 import model
@@ -35,8 +37,36 @@ def dice_of(name: str, case: int) -> Random:
     return random.Random(f"{harness.SEED} {name} {case}")
 
 
+def each_case(name: str, count: int, check: Callable[[Random, object], None]) -> None:
+    """Checks so many cases of this name. In place of one that fails a smaller one is told, if hypothesis finds one."""
+    for case in range(count):
+        try:
+            check(dice_of(name, case), case)
+        except Failed as failure:
+            raise smallest(check) or failure from None
+
+
+def smallest(check: Callable[[Random, object], None]) -> Failed | None:
+    """How the smallest case fails of those that hypothesis draws, if it is installed and one fails."""
+    try:
+        hypothesis: Any = importlib.import_module("hypothesis")
+    except ImportError:
+        return None
+
+    def checked(dice: Random) -> None:
+        check(dice, "hypothesis")
+
+    checks = [*hypothesis.HealthCheck]
+    settings = hypothesis.settings(max_examples=500, deadline=None, database=None, suppress_health_check=checks)
+    try:
+        settings(hypothesis.given(hypothesis.strategies.randoms(use_true_random=False))(checked))()
+    except Failed as failure:
+        return failure
+    return None
+
+
 @contextmanager
-def told_in(name: str, case: int, text: Text) -> Iterator[None]:
+def told_in(name: str, case: object, text: Text) -> Iterator[None]:
     """Adds to what failed how it is repeated: the seed, the case and its text."""
     try:
         yield
@@ -134,14 +164,16 @@ SCRIPTS = {
 def random_scripts_one_after_another(mltx: Program, case: tuple[str, Cells]) -> None:
     """All replies, commit numbers and aborts of `solo` are those of the model."""
     hash_name, cells = case
-    for number in range(20 * harness.CASES):
-        dice = dice_of(f"scripts {case}", number)
+
+    def check(dice: Random, number: object) -> None:
         text = "".join(random_scripts(dice, cells, 3))
         with told_in("scripts", number, text):
             base, scripts = model.Base(), model.parse(text.encode())
             written = model.solo(scripts, base)
             expect(mltx.run("solo", "--hash", hash_name, "--trace", "trace", "-", given=text), out=written)
             checked_trace(mltx, base, written.count("committed "))
+
+    each_case(f"scripts {case}", 20 * harness.CASES, check)
 
 
 def checked_trace(mltx: Program, base: Base, commits: int) -> list[int]:
@@ -430,8 +462,8 @@ SCHEDULES = {
 def random_schedules(mltx: Program, case: tuple[str, Cells, int, int]) -> None:
     """Each event is told what the tables and the locks allow, and what committed is serial in commit order."""
     hash_name, cells, calls, many = case
-    for number in range(many * harness.CASES):
-        dice = dice_of(f"schedules {case}", number)
+
+    def check(dice: Random, number: object) -> None:
         events = random_schedule(dice, cells, calls, dice.randint(1, 120))
         text = "".join(show(event) + "\n" for event in events)
         with told_in("schedules", number, text):
@@ -439,6 +471,8 @@ def random_schedules(mltx: Program, case: tuple[str, Cells, int, int]) -> None:
             expect(ran, out=ran.out)
             watch = watched_schedule(mltx, events, ran.out.decode().splitlines(), hash_name == "low")
             holds(not watch.open, f"still open at the end: {list(watch.open)}")
+
+    each_case(f"schedules {case}", many * harness.CASES, check)
 
 
 def watched_schedule(mltx: Program, events: list[Event], told: list[str], low: bool) -> Watch:
