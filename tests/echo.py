@@ -237,3 +237,4 @@ def file_in_place_of_a_command(mltx: Program) -> None:
     holds(ran.err.decode().endswith(f"\n  tip: to run the scripts of a file: mltx solo {file}\n"), f"{ran}")
     for words in (["nosuch.txt"], ["."], ["solo", "--nosuch", file]):
         holds(b"to run the scripts" not in mltx.run(*words).err, f"{words}")
+    holds(mltx.run("version").err.endswith(b"\n  tip: to print the version: mltx --version\n"), "where the version is asked for")

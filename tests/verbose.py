@@ -114,7 +114,7 @@ WITH_A_NUMBER = "this begins a script for `run` or a trace for `check`; "
 PRINTED = "expected: only tabs and bytes from 0x20 to 0x7e"
 IN_COMMENTS = ", except in comment lines"
 ALL_ENDED = "expected: a `begin` before it, and an `end` for each `if`"
-OPEN_IF = "expected: an open `if` before it, and before an `else` one that has none yet"
+OPEN_IF = "an `end` ends an `if`, and `commit` or `abort` a transaction; expected: an open `if` before it"
 OPEN_SINCE_2 = "the `if` in line 2 has no `end`; expected: an `end` for each `if`"
 TOO_LARGE = "is too large: numbers have at most 20 digits, and are below 2^64"
 SIGNED = "has a sign: numbers have none"
@@ -181,6 +181,18 @@ FAULTY: Mapping[str, tuple[str, str | bytes, int, str, str, str]] = {
     "two-operations-in-one": (
         "solo", "begin\ntransfer 1 2 50\n", 2, "Words", "transfer 1 2 50",
         f"`transfer` is written as `withdraw` and `deposit`; expected: {BEGINNINGS['solo']}",
+    ),
+    "value-that-is-set": (
+        "solo", "begin\nset 1 50\n", 2, "Words", "set 1 50",
+        f"`set` gives no value here: `deposit`, `withdraw`, `up` and `down` change one; expected: {BEGINNINGS['solo']}",
+    ),
+    "variable-in-a-schedule": (
+        "steps", "begin\nwhole 1 deposit 1 v\n", 2, "Words", "whole 1 deposit 1 v",
+        f"`v` is a variable, which scripts alone have; expected: {WHOLE}",
+    ),
+    "variable-in-a-trace": (
+        "check", "begin 1\nop 1 up v 1 done\n", 2, "Words", "op 1 up v 1 done",
+        "`v` is a variable, which scripts alone have; expected: `op T OP REPLY`, such as `op 3 balance 101 is 70`",
     ),
     "amount-with-a-point": (
         "solo", "begin\ndeposit 1 10.50\n", 2, "Words", "deposit 1 10.50", f"`10.50` is no whole number; expected: {DEPOSIT}"
@@ -262,7 +274,9 @@ FAULTY: Mapping[str, tuple[str, str | bytes, int, str, str, str]] = {
     "commit-behind-an-if-that-ended-in-crlf": (
         "solo", "begin\r\nif has 1 1 is yes\r\nend\r\ncommit\r\ncommit\r\n", 5, "Place", "commit", ALL_ENDED
     ),
-    "else-without-an-if": ("solo", "begin\nelse\n", 2, "Place", "else", OPEN_IF),
+    "else-without-an-if": (
+        "solo", "begin\nelse\n", 2, "Place", "else", "expected: an open `if` before it that has no `else` yet"
+    ),
     "end-without-an-if": ("solo", "begin\nend\n", 2, "Place", "end", OPEN_IF),
     "ifs-in-one-another": (
         "solo", "begin\n" + "if has 1 1 is yes\n" * 17, 18, "Deep", "if has 1 1 is yes",
@@ -289,7 +303,8 @@ FAULTY: Mapping[str, tuple[str, str | bytes, int, str, str, str]] = {
         f"{OPEN_TX}without a `back`, and as N the number of earlier commits plus 1",
     ),
     "abort-with-an-operation-left": (
-        "check", "begin 1\nop 1 open 1 opened\nabort 1\n", 3, "Place", "abort 1", f"{OPEN_TX}that has no operation left"
+        "check", "begin 1\nop 1 open 1 opened\nabort 1\n", 3, "Place", "abort 1",
+        "expected: an open transaction, and before its `abort` a `back` for each of its operations",
     ),
     "reply-that-is-not-right": (
         "check", "begin 1\nop 1 open 1 exists\ncommit 1 1\n", 2, "Reply", "op 1 open 1 exists",
@@ -348,7 +363,7 @@ FORMS: Mapping[str, Sequence[tuple[str, str]]] = {
         ("undo", "`undo T`"),
     ),
     "check": (
-        ("begin x", "`begin T`, T at least 1"),
+        ("begin 1 2", "`begin T`, T at least 1"),
         ("op 1 balance 1", "`op T OP REPLY`, such as `op 3 balance 101 is 70`"),
         ("back 0", "`back T`, T at least 1"),
         ("commit 1", "`commit T N`, T and N at least 1"),

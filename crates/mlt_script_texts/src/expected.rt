@@ -136,14 +136,17 @@ static SCRIPT_PLACES: WordTable = &[
     ("begin", "expected: a `commit` or an `abort` before it"),
     ("commit", SCRIPT_END),
     ("abort", SCRIPT_END),
-    ("else", IN_AN_IF),
-    ("end", IN_AN_IF),
+    (
+        "else",
+        "expected: an open `if` before it that has no `else` yet",
+    ),
+    (
+        "end",
+        "an `end` ends an `if`, and `commit` or `abort` a transaction; expected: an open `if` before it",
+    ),
 ];
 
 const SCRIPT_END: &str = "expected: a `begin` before it, and an `end` for each `if`";
-
-const IN_AN_IF: &str =
-    "expected: an open `if` before it, and before an `else` one that has none yet";
 
 // Of lines of a trace that may not stand there.
 static TRACE_PLACES: WordTable = &[
@@ -172,7 +175,7 @@ fn script_place_text(word: &[u8]) -> &'static str {
 
 fn trace_place_text(word: &[u8]) -> &'static str {
     find_row(TRACE_PLACES, word).unwrap_or(
-        "expected: an open transaction that has no operation left",
+        "expected: an open transaction, and before its `abort` a `back` for each of its operations",
     )
 }
 

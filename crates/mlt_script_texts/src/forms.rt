@@ -134,6 +134,10 @@ pub(crate) static OTHER_NAMES: WordTable = &[
     ("decrement", "is written as `down`"),
     ("get", "is written as `balance`, `has` or `read`"),
     ("transfer", "is written as `withdraw` and `deposit`"),
+    (
+        "set",
+        "gives no value here: `deposit`, `withdraw`, `up` and `down` change one",
+    ),
 ];
 
 /// What a table says of a word.

@@ -91,7 +91,7 @@ fn find_hint<'a>(
         if Some(at) == place && replies.is_none() {
             return unknown_word(alloc, None, *word);
         }
-        if let Some(said) = number_text(word.text) {
+        if let Some(said) = variable_text(kind, word.text).or(number_text(word.text)) {
             return Ok(Hint::OfWord(*word, said));
         }
     }
@@ -225,6 +225,15 @@ fn is_reply(word: &[u8]) -> bool {
         Some((Word::Variable(_) | Word::Number(_), _))
     );
     is_value || word == b"is".as_slice() || read_reply(word).is_some()
+}
+
+// That a word is a variable, in a text that has none.
+fn variable_text(kind: TextKind, word: &[u8]) -> Option<&'static str> {
+    match (kind, next_word(word)) {
+        (TextKind::Scripts, _) => None,
+        (_, Some((Word::Variable(_), _))) => Some("is a variable, which scripts alone have"),
+        _ => None,
+    }
 }
 
 // What is odd of a word that stands where a number does.

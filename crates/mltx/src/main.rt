@@ -106,19 +106,23 @@ fn words(rt: &HostRuntime) -> Result<Vec<String>, Refusal> {
 const WAITS: &str =
     "mltx: reading scripts from the terminal until Ctrl-D; `mltx --help` lists the commands\n";
 
-// Where the first word is no command but a file, tells which command runs that.
+// Where the first word is no command but a file, tells which command runs that, and where it asks for the version, how that is written.
 fn suggest(rt: &HostRuntime, error: &clap::Error, words: &[String]) {
-    let Some(file) = words.first() else {
+    let Some(word) = words.first() else {
         return;
     };
-    let is_file = fs::metadata(rt, file.as_str()).is_ok_and(|found| found.is_file());
-    if error.kind() != ErrorKind::InvalidSubcommand || !is_file {
+    if error.kind() != ErrorKind::InvalidSubcommand {
         return;
     }
+    let tip = if word.as_str() == "version" {
+        format!(in rt.alloc(); "\n  tip: to print the version: mltx --version\n")
+    } else if fs::metadata(rt, word.as_str()).is_ok_and(|found| found.is_file()) {
+        format!(in rt.alloc(); "\n  tip: to run the scripts of a file: mltx solo {word}\n")
+    } else {
+        return;
+    };
     // A hint, as above.
-    if let Ok(text) = format!(in rt.alloc();
-        "\n  tip: to run the scripts of a file: mltx solo {file}\n"
-    ) {
+    if let Ok(text) = tip {
         let _ = write_text(&mut rt.stderr(), text.as_bytes());
     }
 }
