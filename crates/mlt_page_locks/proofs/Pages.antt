@@ -1,6 +1,6 @@
 -- The pages of a list of locks, by rising numbers.
 use Rattle.mlt_page_locks.proofs.Names.{zero, IsBinarySearchResult, nat_cmp_total, nat_tests, cases_eq, cases_lt, cases_Bool, get_or_default, with_items, Mode, PageLock, Modes, stronger, with_page, IsAt, IsBetween}
-use Rattle.std.proofs.Common.{◌≡◌, ◌⊎◌, ℕ, suc, ◌≤◌, ◌<◌, ◌+◌, ◌-◌, eqb, Bool, true, false, cond, Some, None, is_some, true≢false, Result, Ok, Err, List, [], ◌∷◌, ◌++◌, length, get_or, set, refl, sym, ap, subst, inl, inr, ◌∙◌, length-set, arith, MatchResult, insert, nat_cmp, get_or-set_same, get_or-set_other}
+use Rattle.std.proofs.Common.{◌≡◌, ◌⊎◌, ℕ, suc, ◌≤◌, ◌<◌, ◌+◌, ◌-◌, eqb, Bool, true, false, cond, Some, None, is_some, true≢false, Result, Ok, Err, List, [], ◌∷◌, ◌++◌, length, get_or, set, sym, ap, subst, inl, inr, ◌∙◌, length-set, arith, MatchResult, insert, nat_cmp, get_or-set_same, get_or-set_other}
 use Rattle.std.{specs.List.Sorted.IsSearchInRange, specs.Ordering.MatchOrdering, specs.Ordering.ordering_index, specs.Cmp.ranks, proofs.lemmas.List.Edits.get_or-insert_at, proofs.lemmas.List.Edits.get_or-insert_below, proofs.lemmas.List.Edits.get_or-insert_above, proofs.lemmas.List.Edits.insert_end}
 use Rattle.std.specs.FinMap as map
 use Rattle.arrayvec.{specs.ArrayVec.ArrayVec, proofs.ArrayVecLemmas.items-with_items}
@@ -198,24 +198,6 @@ pub added_behind : (locks looked new : List PageLock) (q : ℕ) (mode : Mode) �
 added_behind locks looked new q mode order look at is =
     added locks looked new q (length looked) mode order look at
     (is ∙ sym (insert_end locks (record { page = q; mode = mode })) ∙ ap (λ l. insert locks (length l) (record { page = q; mode = mode })) (sym look))
-
-moved_last : (locks : List PageLock) (lock d : PageLock) → length locks ≡ 2 → set locks 1 lock ++ get_or locks 1 d ∷ [] ≡ insert locks 1 lock
-moved_last [] lock d two = absurd (omega arith)
-moved_last (a ∷ []) lock d two = absurd (omega arith)
-moved_last (a ∷ b ∷ []) lock d two = refl
-moved_last (a ∷ b ∷ e ∷ locks) lock d two = absurd (omega arith)
-
--- and one between two takes the place of the second, which is put behind it
-pub added_between : (locks : ArrayVec PageLock) (looked read written new : List PageLock) (q : ℕ) (mode : Mode) (last : PageLock)
-    → IsInOrder locks.items → looked ≡ locks.items → read ≡ locks.items → written ≡ locks.items → (length looked ≡ 2) × IsBetween looked q 1 → last ≡ get_or read 1 last
-    → new ≡ (with_items locks (set written 1 (record { page = q; mode = mode }))).items ++ last ∷ [] → Strengthened locks.items q mode new
-added_between locks looked read written new q mode last order look reads write at last_is is =
-    let lock : PageLock = record { page = q; mode = mode } in
-    let two : length locks.items ≡ 2 = ap length (sym look) ∙ at.0 in
-    let items : (with_items locks (set written 1 lock)).items ≡ set locks.items 1 lock =
-    items-with_items locks (set written 1 lock) (length-set {A = PageLock} written 1 lock ∙ ap length write) ∙ ap (λ xs. set xs 1 lock) write in
-    added locks.items looked new q 1 mode order look at.1
-    (is ∙ ap (λ xs. xs ++ last ∷ []) items ∙ ap (λ x. set locks.items 1 lock ++ x ∷ []) (last_is ∙ ap (λ xs. get_or xs 1 last) reads) ∙ moved_last locks.items lock last two)
 
 -- a further page has room where the map with it has
 pub room_for : (locks looked : List PageLock) (modes : Modes) (q i : ℕ) (mode : Mode)

@@ -1,6 +1,6 @@
 //! The locks of one transaction, by rising page numbers.
 
-ghost use Rattle.std.specs.Prelude.{◌≡◌, ◌==◌, ◌&&◌, ◌↔◌, false, not, length, IsTrue, MatchResult};
+ghost use Rattle.std.specs.Prelude.{◌≡◌, ◌==◌, ◌&&◌, ◌↔◌, false, not, length, IfSome, IsTrue, MatchResult};
 ghost use Rattle.std.specs.Option.{option_map_or};
 ghost use Rattle.std.specs.FinMap as map;
 ghost use Rattle.mlt_page_locks.specs.Requests.{stronger, is_against};
@@ -122,8 +122,8 @@ impl LockList {
         self.tx = tx;
     }
 
-    /// Adds a lock, or makes one that is there stronger. It searches for the page only where that is neither behind all
-    /// others nor between the two that are there.
+    /// Adds a lock, or makes one that is there stronger. It searches for the page only where that is not behind all others,
+    /// and there are not just two.
     #[inline(always)]
     pub fn add(&mut self, page: PageNo, mode: Mode)
         requires { HasRoomFor self.old page mode }
@@ -131,10 +131,8 @@ impl LockList {
     {
         if is_behind(&self.locks, page) {
             self.locks.push(PageLock { page, mode });
-        } else if is_between_two(&self.locks, page) {
-            let last = self.locks[1];
-            self.locks[1] = PageLock { page, mode };
-            self.locks.push(last);
+        } else if let Some(place) = place_among_two(&self.locks, page) {
+            self.locks.insert(place, PageLock { page, mode });
         } else {
             self.add_anywhere(page, mode);
         }
@@ -175,14 +173,16 @@ fn is_behind(locks: &[PageLock], page: PageNo) -> bool
     }
 }
 
-// Whether there are two locks, one on a lower page and one on a higher.
+// Where a lock on the page comes among two, of which none is on it and the last is on a higher page.
 #[inline(always)]
-fn is_between_two(locks: &[PageLock], page: PageNo) -> bool
-    ensures { IsTrue result ↔ (length locks.now ≡ 2) × IsBetween locks.now page 1 }
+fn place_among_two(locks: &[PageLock], page: PageNo) -> Option<usize>
+    requires { IsRising locks.now }
+    ensures { IfSome result (IsBetween locks.now page) }
 {
     match locks {
-        [first, last] => first.page.0 < page.0 && page.0 < last.page.0,
-        _ => false,
+        [first, _] if page.0 < first.page.0 => Some(0),
+        [first, last] if first.page.0 < page.0 && page.0 < last.page.0 => Some(1),
+        _ => None,
     }
 }
 

@@ -1,6 +1,6 @@
 use Rattle.std.proofs.Common.{length, ap, ◌∙◌, lit<}
 use Rattle.mlt_page_locks.proofs.Names.{HeldPages, with_lock}
-use Rattle.mlt_page_locks.proofs.Pages.{Strengthened, added_behind, added_between, room_for}
+use Rattle.mlt_page_locks.proofs.Pages.{Strengthened, added, added_behind, room_for}
 use Rattle.mlt_page_locks.proofs.lock_list.LockList.add.Goals as goal
 
 behind : (c : goal.After-push) → Strengthened c.self.inside.locks.items c.args.page c.args.mode c.push.new.self.items
@@ -8,11 +8,10 @@ behind c =
     added_behind c.self.inside.locks.items c.deref.result.now c.push.new.self.items c.args.page c.args.mode c.self.invariant c.deref.ensures.0
     (c.is_behind.ensures.0 c.if-is_behind.true) c.push.ensures.items
 
-between : (c : goal.After-push-then-is_between_two) → Strengthened c.self.inside.locks.items c.args.page c.args.mode c.push-then-is_between_two.new.self.items
-between c =
-    added_between c.self.inside.locks c.deref-else-is_behind.result.now c.deref-then-is_between_two.result.now c.deref_mut.result.now c.push-then-is_between_two.new.self.items
-    c.args.page c.args.mode c.index-deref-1.result c.self.invariant c.deref-else-is_behind.ensures.0 c.deref-then-is_between_two.ensures.0 c.deref_mut.ensures.value
-    (c.is_between_two.ensures.0 c.if-is_between_two.true) c.index-deref-1.is c.push-then-is_between_two.ensures.items
+among : (c : goal.After-insert) → Strengthened c.self.inside.locks.items c.args.page c.args.mode c.insert.new.self.items
+among c =
+    added c.self.inside.locks.items c.deref-else-is_behind.result.now c.insert.new.self.items c.args.page c.in-Some.place c.args.mode c.self.invariant c.deref-else-is_behind.ensures.0
+    c.in-Some.ensures c.insert.ensures.items
 
 pub push-requires : goal.push-requires
 push-requires c =
@@ -21,16 +20,23 @@ push-requires c =
     (c.is_behind.ensures.0 c.if-is_behind.true) (ap (λ (v : HeldPages). v.modes) c.self.view_is) c.requires in
     (lit< tt, room.1)
 
+pub insert-requires : goal.insert-requires
+insert-requires c =
+    let room =
+    room_for c.self.inside.locks.items c.deref-else-is_behind.result.now c.args.self.now.modes c.args.page c.in-Some.place c.args.mode c.self.invariant c.deref-else-is_behind.ensures.0
+    c.in-Some.ensures (ap (λ (v : HeldPages). v.modes) c.self.view_is) c.requires in
+    (lit< tt, room)
+
 pub invariant_of-self : goal.invariant_of-self
 invariant_of-self c = (behind c).in_order
 
-pub invariant_of-self-then-is_between_two : goal.invariant_of-self-then-is_between_two
-invariant_of-self-then-is_between_two c = (between c).in_order
+pub invariant_of-self-in-Some : goal.invariant_of-self-in-Some
+invariant_of-self-in-Some c = (among c).in_order
 
 pub returns-then-is_behind : goal.returns-then-is_behind
 returns-then-is_behind c =
     ap (λ modes. record { tx = c.self.inside.tx; modes = modes }) (behind c).modes ∙ ap (λ (v : HeldPages). with_lock v c.args.page c.args.mode) c.self.view_is
 
-pub returns-then-is_between_two : goal.returns-then-is_between_two
-returns-then-is_between_two c =
-    ap (λ modes. record { tx = c.self.inside.tx; modes = modes }) (between c).modes ∙ ap (λ (v : HeldPages). with_lock v c.args.page c.args.mode) c.self.view_is
+pub returns-in-Some : goal.returns-in-Some
+returns-in-Some c =
+    ap (λ modes. record { tx = c.self.inside.tx; modes = modes }) (among c).modes ∙ ap (λ (v : HeldPages). with_lock v c.args.page c.args.mode) c.self.view_is
