@@ -1,6 +1,7 @@
 -- Lists of entries, each of a transaction.
-use Rattle.mlt_object_locks.proofs.Names.{zero, nat_tests, Contains-get_or, position-Some, HasEachOnce, is_entry_of, value_of}
-use Rattle.std.proofs.Common.{◌≡◌, ◌≢◌, ℕ, suc, ◌-◌, ◌<◌, List, [], ◌∷◌, ◌++◌, false, None, Some, nat_eq, length, length-append, slice_get, get_or, set, sym, ap, subst, ◌∙◌, refl, arith, unwrap_or, position, remove}
+use Rattle.mlt_object_locks.proofs.Names.{zero, cases_eq, nat_tests, take_more, Contains-get_or, position-Some, HasEachOnce, is_entry_of, value_of}
+use Rattle.std.proofs.Common.{◌≡◌, ◌≢◌, ◌⊎◌, ℕ, suc, ◌+◌, ◌-◌, ◌<◌, if◌then◌else◌, ◌==◌, inl, inr, take, take_all, List, [], ◌∷◌, ◌++◌, false, None, Some, nat_eq, length, length-append, slice_get, get_or, set, sym, ap, subst, ◌∙◌, refl, arith, unwrap_or, position, swap_remove}
+use Rattle.std.proofs.lemmas.List.Sums.{position_or_len_is}
 use Rattle.mlt_object_locks.proofs.Membership.{some_found}
 
 pub differ : (a b : ℕ) → b ≢ a → nat_eq a b ≡ false
@@ -73,6 +74,66 @@ module _ {X : Type 0} where
       pub popped_once : HasEachOnce rest
       popped_once = before.1
 
+  -- ---- the last takes the place of another
+
+  -- it comes to the front as well as to the end
+  in_front : (rest : List (ℕ × X)) (last : ℕ × X) → value_of rest last.0 ≡ None → (u : ℕ) → value_of (last ∷ rest) u ≡ value_of (rest ++ last ∷ []) u
+  in_front rest last none u = by (cases_eq u last.0)
+    where
+      by : (u ≡ last.0) ⊎ (u ≡ last.0 → ⊥) → value_of (last ∷ rest) u ≡ value_of (rest ++ last ∷ []) u
+      by (inl e) = let own = pushed_own rest last.0 last.1 none in grind (arith, nat_tests)
+      by (inr ne) = let other = pushed_other rest last.0 last.1 u ne in grind (arith, nat_tests)
+
+  not_there : (entries : List (ℕ × X)) (u : ℕ) → value_of entries u ≡ None → (at : ℕ) (d : ℕ × X) → at < length entries → (get_or entries at d).0 ≢ u
+  not_there [] u none at d lt = absurd (omega arith)
+  not_there (entry ∷ entries) u none zero d lt = λ e. (let same = e in grind (arith, nat_tests))
+  not_there (entry ∷ entries) u none (suc at) d lt = not_there entries u (grind (arith, nat_tests)) at d (omega arith)
+
+  last_apart : (entries : List (ℕ × X)) (d : ℕ × X) → 0 < length entries → entries ≡ take (length entries - 1) entries ++ get_or entries (length entries - 1) d ∷ []
+  last_apart entries d some = sym (take_all (length entries - 1 + 1) entries (omega arith)) ∙ take_more entries (length entries - 1) d (omega arith)
+
+  module _ (entry : ℕ × X) (entries : List (ℕ × X)) (d : ℕ × X) (some : 0 < length entries) where
+    further : suc (length entries) - 1 ≡ suc (length entries - 1)
+    further = omega arith
+
+    swapped_first : swap_remove (entry ∷ entries) 0 d ≡ get_or entries (length entries - 1) d ∷ take (length entries - 1) entries
+    swapped_first = ap (λ k. take k (get_or (entry ∷ entries) k d ∷ entries)) further
+
+    swapped_later : (at : ℕ) → swap_remove (entry ∷ entries) (suc at) d ≡ entry ∷ swap_remove entries at d
+    swapped_later at = ap (λ k. take k (entry ∷ set entries at (get_or (entry ∷ entries) k d))) further
+
+  swapped_value : (u : ℕ) (entries : List (ℕ × X)) (at : ℕ) (d : ℕ × X) → at < length entries → HasEachOnce entries
+      → value_of (swap_remove entries at d) u ≡ (if (get_or entries at d).0 == u then None else value_of entries u)
+  swapped_value u [] at d lt once = absurd (omega arith)
+  swapped_value u (entry ∷ []) zero d lt once = grind (arith, nat_tests)
+  swapped_value u (entry ∷ next ∷ entries) zero d lt once =
+      let some : 0 < length (next ∷ entries) = omega arith in
+      let apart = last_apart (next ∷ entries) d some in
+      let before = before_last _ _ (subst HasEachOnce apart once.1) in
+      let front = ap (λ l. value_of l u) (swapped_first entry (next ∷ entries) d some) ∙ in_front _ _ before.0 u ∙ ap (λ l. value_of l u) (sym apart) in
+      let none = once.0 in
+      by (cases_eq entry.0 u) front
+    where
+      by : (entry.0 ≡ u) ⊎ (entry.0 ≡ u → ⊥) → value_of (swap_remove (entry ∷ next ∷ entries) 0 d) u ≡ value_of (next ∷ entries) u
+          → value_of (swap_remove (entry ∷ next ∷ entries) 0 d) u ≡ (if entry.0 == u then None else value_of (entry ∷ next ∷ entries) u)
+      by (inl e) front = front ∙ ap (value_of (next ∷ entries)) (sym e) ∙ once.0 ∙ grind (arith, nat_tests)
+      by (inr ne) front = front ∙ grind (arith, nat_tests)
+  swapped_value u (entry ∷ entries) (suc at) d lt once =
+      let rest = swapped_value u entries at d (omega arith) once.1 in
+      let apart = not_there entries entry.0 once.0 at d (omega arith) in
+      ap (λ l. value_of l u) (swapped_later entry entries d (omega arith) at) ∙ grind (arith, nat_tests)
+
+  swapped_once : (entries : List (ℕ × X)) (at : ℕ) (d : ℕ × X) → at < length entries → HasEachOnce entries → HasEachOnce (swap_remove entries at d)
+  swapped_once [] at d lt once = absurd (omega arith)
+  swapped_once (entry ∷ []) zero d lt once = tt
+  swapped_once (entry ∷ next ∷ entries) zero d lt once =
+      let some : 0 < length (next ∷ entries) = omega arith in
+      subst HasEachOnce (sym (swapped_first entry (next ∷ entries) d some)) (before_last _ _ (subst HasEachOnce (last_apart (next ∷ entries) d some) once.1))
+  swapped_once (entry ∷ entries) (suc at) d lt once =
+      let value = swapped_value entry.0 entries at d (omega arith) once.1 in
+      let none = once.0 in
+      subst HasEachOnce (sym (swapped_later entry entries d (omega arith) at)) (grind (arith, nat_tests), swapped_once entries at d (omega arith) once.1)
+
   -- ---- one that is found
 
   -- the entry at this index is the first of the transaction
@@ -107,27 +168,6 @@ module _ {X : Type 0} where
     value_first (entry ∷ entries) (suc at) first =
         let rest = value_first entries at (next entry entries at first) in let other = not_yet entry entries at first in grind (arith, nat_tests)
 
-    removed_none : (u : ℕ) (entries : List (ℕ × X)) (at : ℕ) → at < length entries → value_of entries u ≡ None → value_of (remove entries at) u ≡ None
-    removed_none u [] at lt none = absurd (omega arith)
-    removed_none u (entry ∷ entries) zero lt none = grind (arith, nat_tests)
-    removed_none u (entry ∷ entries) (suc at) lt none = let rest = removed_none u entries at (omega arith) in grind (arith, nat_tests)
-
-    removed_once : (entries : List (ℕ × X)) (at : ℕ) → at < length entries → HasEachOnce entries → HasEachOnce (remove entries at)
-    removed_once [] at lt once = absurd (omega arith)
-    removed_once (entry ∷ entries) zero lt once = once.1
-    removed_once (entry ∷ entries) (suc at) lt once = (removed_none entry.0 entries at (omega arith) once.0, removed_once entries at (omega arith) once.1)
-
-    removed_own : (entries : List (ℕ × X)) (at : ℕ) → HasEachOnce entries → IsFirstOf entries tx at d → value_of (remove entries at) tx ≡ None
-    removed_own [] at once first = let lt = first.within in absurd (omega arith)
-    removed_own (entry ∷ entries) zero once first = subst (λ u. value_of entries u ≡ None) first.own once.0
-    removed_own (entry ∷ entries) (suc at) once first =
-        let rest = removed_own entries at once.1 (next entry entries at first) in let other = not_yet entry entries at first in grind (arith, nat_tests)
-
-    removed_other : (u : ℕ) → u ≢ tx → (entries : List (ℕ × X)) (at : ℕ) → IsFirstOf entries tx at d → value_of (remove entries at) u ≡ value_of entries u
-    removed_other u ne [] at first = let lt = first.within in absurd (omega arith)
-    removed_other u ne (entry ∷ entries) zero first = let own : entry.0 ≡ tx = first.own in grind (arith, nat_tests)
-    removed_other u ne (entry ∷ entries) (suc at) first = let rest = removed_other u ne entries at (next entry entries at first) in grind (arith, nat_tests)
-
     -- another entry of the transaction in its place
     module _ (new : ℕ × X) (same : new.0 ≡ tx) where
       set_own : (entries : List (ℕ × X)) (at : ℕ) → IsFirstOf entries tx at d → value_of (set entries at new) tx ≡ Some new.1
@@ -153,6 +193,9 @@ module _ {X : Type 0} where
           let rest = next entry entries at first in (set_none entry.0 entries at rest once.0, set_once entries at rest once.1)
 
   module _ (entries : List (ℕ × X)) (tx at : ℕ) (d : ℕ × X) (is : position (is_entry_of tx) entries ≡ Some at) where
+    within : at < length entries
+    within = (is_first entries tx at d is).within
+
     pub found_own : (get_or entries at d).0 ≡ tx
     found_own = (is_first entries tx at d is).own
 
@@ -160,14 +203,15 @@ module _ {X : Type 0} where
     found_value = value_first tx d entries at (is_first entries tx at d is)
 
     -- what it has is taken away
-    pub taken_own : HasEachOnce entries → value_of (remove entries at) tx ≡ None
-    taken_own once = removed_own tx d entries at once (is_first entries tx at d is)
+    module _ (once : HasEachOnce entries) where
+      pub taken_own : value_of (swap_remove entries at d) tx ≡ None
+      taken_own = let value = swapped_value tx entries at d within once in let own = found_own in grind (arith, nat_tests)
 
-    pub taken_other : (u : ℕ) → u ≢ tx → value_of (remove entries at) u ≡ value_of entries u
-    taken_other u ne = removed_other tx d u ne entries at (is_first entries tx at d is)
+      pub taken_other : (u : ℕ) → u ≢ tx → value_of (swap_remove entries at d) u ≡ value_of entries u
+      taken_other u ne = let value = swapped_value u entries at d within once in let own = found_own in grind (arith, nat_tests)
 
-    pub taken_once : HasEachOnce entries → HasEachOnce (remove entries at)
-    taken_once once = removed_once tx d entries at (is_first entries tx at d is).within once
+      pub taken_once : HasEachOnce (swap_remove entries at d)
+      taken_once = swapped_once entries at d within once
 
     -- or it gets another value
     pub changed_own : (new : ℕ × X) → new.0 ≡ tx → value_of (set entries at new) tx ≡ Some new.1
@@ -178,3 +222,18 @@ module _ {X : Type 0} where
 
     pub changed_once : (new : ℕ × X) → new.0 ≡ tx → HasEachOnce entries → HasEachOnce (set entries at new)
     changed_once new same once = set_once tx d new same entries at (is_first entries tx at d is) once
+
+  -- where one of the transaction is, it is found
+  pub found_where : (entries : List (ℕ × X)) (tx at : ℕ) (d : ℕ × X) → HasEachOnce entries → at < length entries → (get_or entries at d).0 ≡ tx → position (is_entry_of tx) entries ≡ Some at
+  found_where entries tx at d once lt own =
+      let first = position_or_len_is (is_entry_of tx) entries at d (omega arith) (λ k before. not_of k (earlier entries tx at once lt own k before)) (λ _. grind (arith, nat_tests)) in
+      grind (arith, nat_tests)
+    where
+      earlier : (entries : List (ℕ × X)) (tx at : ℕ) → HasEachOnce entries → at < length entries → (get_or entries at d).0 ≡ tx → (k : ℕ) → k < at → (get_or entries k d).0 ≢ tx
+      earlier [] tx at once lt own k before = absurd (omega arith)
+      earlier (entry ∷ entries) tx zero once lt own k before = absurd (omega arith)
+      earlier (entry ∷ entries) tx (suc at) once lt own zero before = λ e. not_there entries entry.0 once.0 at d (omega arith) (own ∙ sym e)
+      earlier (entry ∷ entries) tx (suc at) once lt own (suc k) before = earlier entries tx at once.1 (omega arith) own k (omega arith)
+
+      not_of : (k : ℕ) → (get_or entries k d).0 ≢ tx → is_entry_of tx (get_or entries k d) ≡ false
+      not_of k ne = grind (arith, nat_tests)

@@ -3,14 +3,14 @@
 //! A place is noted when an operation that stands there is granted, in room that the reservation made. So no more places
 //! are noted of a transaction than two for each operation that it holds, however many cells it has reserved.
 //!
-//! Few transactions hold something at a time, and to go through a list of them takes less than to keep a table.
+//! Few transactions hold something at a time, and to look where one stood in a list of them takes less than to keep a table.
 
 ghost use Rattle.std.specs.Prelude.{◌≡◌, ◌<◌, ◌≤◌, ◌+◌, ◌++◌, ◌∷◌, [], None, Some, OnOk, OnErr, IsOkUnless, position};
 ghost use Rattle.std.specs.Option.{option_map_or};
-ghost use Rattle.mlt_object_locks.specs.Entries.{is_entry_of};
+ghost use Rattle.mlt_object_locks.specs.Entries.{HasEachOnce, is_entry_of};
 ghost use Rattle.mlt_object_locks.specs.Noted.{noted_of, SameNoted};
 
-use mlt_types::{Refusal, TxId};
+use mlt_types::{PlaceHints, Refusal, TxId};
 use smallvec::SmallVec;
 use std::alloc::Global;
 use std::marker::Model;
@@ -95,6 +95,7 @@ impl CellKeys {
 #[derive(Drop)]
 pub(crate) struct Noted {
     entries: Vec<(TxId, CellKeys)>,
+    hints: PlaceHints,
 }
 
 impl Model for Noted {
@@ -116,6 +117,7 @@ impl Noted {
     {
         Noted {
             entries: Vec::new(alloc),
+            hints: PlaceHints::new(),
         }
     }
 
@@ -131,7 +133,7 @@ impl Noted {
         ensures err { OnErr result ((noted_of self.new tx).room ≡ (noted_of self.old tx).room) }
         ensures refusal { IsOkUnless result Refusal.OutOfMemory }
     {
-        match place_of(&self.entries, tx) {
+        match place_of(&self.entries, &self.hints, tx) {
             Some(at) => self.entries[at].1.reserve(),
             None => self.begin(tx),
         }
@@ -149,6 +151,7 @@ impl Noted {
     {
         let mut keys = CellKeys::new(*self.entries.allocator());
         keys.reserve()?;
+        self.hints.note(tx, self.entries.len());
         self.entries.push((tx, keys))?;
         Ok(())
     }
@@ -160,7 +163,7 @@ impl Noted {
         ensures added { (noted_of self.new tx).keys ≡ (noted_of self.old tx).keys ++ key ∷ [] }
         ensures room { (noted_of self.old tx).room ≤ (noted_of self.new tx).room + 1 }
     {
-        match place_of(&self.entries, tx) {
+        match place_of(&self.entries, &self.hints, tx) {
             Some(at) => self.entries[at].1.add(key),
             None => unreachable!(),
         }
@@ -173,16 +176,33 @@ impl Noted {
         ensures others { SameNoted self.old self.new tx }
         ensures none { (noted_of self.new tx).keys ≡ [] }
     {
-        match place_of(&self.entries, tx) {
-            Some(at) => Some(self.entries.remove(at).1),
+        match place_of(&self.entries, &self.hints, tx) {
+            Some(at) => {
+                let taken = self.entries.swap_remove(at);
+                note_moved(&mut self.hints, &self.entries, at);
+                Some(taken.1)
+            },
             None => None,
         }
     }
 }
 
-// Where the transaction is in the list, if it is there.
-fn place_of(entries: &[(TxId, CellKeys)], tx: TxId) -> Option<usize>
+// Where the transaction is in the list, if it is there. It is looked for first where it is hinted at.
+#[inline(always)]
+fn place_of(entries: &[(TxId, CellKeys)], hints: &PlaceHints, tx: TxId) -> Option<usize>
+    requires { HasEachOnce entries.now }
     ensures { result ≡ position (is_entry_of tx) entries.now }
 {
-    entries.iter().position(|entry| entry.0 == tx)
+    let likely = hints.of(tx);
+    match entries.get(likely) {
+        Some(entry) if entry.0 == tx => Some(likely),
+        _ => entries.iter().position(|entry| entry.0 == tx),
+    }
+}
+
+// The last entry has come to this place, if it was not there.
+fn note_moved(hints: &mut PlaceHints, entries: &[(TxId, CellKeys)], at: usize) {
+    if let Some(entry) = entries.get(at) {
+        hints.note(entry.0, at);
+    }
 }

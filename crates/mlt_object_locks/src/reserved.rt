@@ -103,7 +103,7 @@ impl Reserved {
         ensures others { SameReservations self.old.items self.new.items tx }
     {
         match place_of(&self.entries, tx) {
-            Some(at) => Some(self.entries.remove(at).1),
+            Some(at) => Some(self.entries.swap_remove(at).1),
             None => None,
         }
     }

@@ -1,10 +1,10 @@
 -- The table of slots: the first slot of a number counts.
 use Rattle.mlt_tx.proofs.Names.{zero, nat_tests, get_inserted, same_entries, Transaction, TxSlot, ChangesOne, Table, AreTxSlots, is_free, is_slot_of, table_of}
-use Rattle.std.proofs.Common.{◌≡◌, ℕ, suc, ◌≤◌, ◌<◌, ◌+◌, eqb, true, false, not, cond, ◌&&◌, Some, None, is_some, IsSome, List, [], ◌∷◌, ◌++◌, length, get_or, set, refl, sym, ap, ◌∙◌, arith, position, nat_cmp}
-use Rattle.std.{specs.List.position_from, specs.Cmp.nat_cmp_total, proofs.lemmas.Iterator.Adapters.position_from-zero, proofs.lemmas.List.Quantifiers.position-Some}
+use Rattle.std.proofs.Common.{◌≡◌, ℕ, suc, ◌≤◌, ◌<◌, ◌+◌, eqb, true, false, not, cond, ◌&&◌, Some, None, is_some, IsSome, List, [], ◌∷◌, ◌++◌, length, get_or, set, refl, sym, ap, subst, ◌∙◌, arith, position, nat_cmp, Option, IfSome, IfNone}
+use Rattle.std.{proofs.lemmas.List.get_or_default, specs.List.position_from, specs.Cmp.nat_cmp_total, proofs.lemmas.Iterator.Adapters.position_from-zero, proofs.lemmas.List.Quantifiers.position-Some, proofs.lemmas.List.Sums.position_or_len_is}
 use Rattle.std.specs.FinMap as map
 use Rattle.mlt_page_locks.proofs.Maps.{get_removed}
-use Rattle.mlt_tx.specs.TxSlots.{slots_taken}
+use Rattle.mlt_tx.specs.TxSlots.{HasOneEach, IsFreeAt, slots_taken}
 
 -- under a number stands who lies in the first slot of it
 pub get-table_of : (slot : TxSlot) (slots : List TxSlot) (u : ℕ) → map.get (table_of (slot ∷ slots)) u ≡ cond (is_slot_of u slot) (Some slot.transaction.value) (map.get (table_of slots) u)
@@ -51,6 +51,22 @@ absent_from (slot ∷ slots) tx n none =
       | true ↦ λ is none. cc
       | false ↦ λ is none. grind (arith, get-table_of slot slots tx, absent_from slots tx (n + 1) none)
     ] refl none
+
+-- so no slot before one of a number is of it
+not_before : (slots : List TxSlot) (tx at : ℕ) (d : TxSlot) → OneEach slots → at < length slots → is_slot_of tx (get_or slots at d) ≡ true → (k : ℕ) → k < at → is_slot_of tx (get_or slots k d) ≡ false
+not_before [] tx at d one within there k before = absurd (omega arith)
+not_before (slot ∷ slots) tx zero d one within there k before = absurd (omega arith)
+not_before (slot ∷ slots) tx (suc at) d one within there zero before =
+    let used : is_free (get_or slots at d) ≡ false = grind (arith, there) in
+    let stands = stands_in_table slots at d (later slot slots one) (omega arith) used in
+    grind (arith, nat_tests, there, stands, no_second slot slots one)
+not_before (slot ∷ slots) tx (suc at) d one within there (suc k) before = not_before slots tx at d (later slot slots one) (omega arith) there k (omega arith)
+
+-- and where one of it is, it is found
+pub found_where : (slots : List TxSlot) (tx at : ℕ) (d : TxSlot) → HasOneEach slots → at < length slots → is_slot_of tx (get_or slots at d) ≡ true → position (is_slot_of tx) slots ≡ Some at
+found_where slots tx at d one within there =
+    let first = position_or_len_is (is_slot_of tx) slots at d (omega arith) (not_before slots tx at d (record { as_many = one }) within there) (λ _. there) in
+    grind (arith, nat_tests)
 
 pub get-table_of_place : (slots : List TxSlot) (tx i : ℕ) (d : TxSlot) → position (is_slot_of tx) slots ≡ Some i → map.get (table_of slots) tx ≡ Some (get_or slots i d).transaction.value
 get-table_of_place slots tx i d at = let p = position-Some (is_slot_of tx) slots i d at in found slots tx i d p.0 p.1 p.2
@@ -131,11 +147,27 @@ number_in_slot slots looked tx i d look at =
 pub who_sits : (slots looked : List TxSlot) (tx i : ℕ) (d : TxSlot) → looked ≡ slots → Some i ≡ position (is_slot_of tx) looked → map.get (table_of slots) tx ≡ Some (get_or slots i d).transaction.value
 who_sits slots looked tx i d look at = get-table_of_place slots tx i d (ap (position (is_slot_of tx)) (sym look) ∙ sym at)
 
+-- a slot that was seen is free
+pub free_at : (slots : List TxSlot) (at : ℕ) (d : TxSlot) → at < length slots → is_free (get_or slots at d) ≡ true → IsFreeAt slots at
+free_at slots at d within free = record { within = within; free = λ e. ap is_free (get_or_default slots at e d within) ∙ free }
+
+-- and one that a search found
+pub free_found : (slots : List TxSlot) (found : Option ℕ) → found ≡ position is_free slots → IfSome found (IsFreeAt slots)
+free_found slots None is = tt
+free_found slots (Some at) is = record {
+  within = let found = is in grind (arith, nat_tests);
+  free = λ d. (position-Some is_free slots at d (sym is)).1;
+}
+
+pub none_found : (slots : List TxSlot) (found : Option ℕ) → found ≡ position is_free slots → IfNone found (position is_free slots ≡ None)
+none_found slots None is = sym is
+none_found slots (Some at) is = tt
+
 -- a slot that is taken is one less that is free
-pub one_is_free : (slots looked : List TxSlot) (i : ℕ) (d : TxSlot) → looked ≡ slots → Some i ≡ position is_free looked → slots_taken slots < length slots
+pub one_is_free : (slots looked : List TxSlot) (i : ℕ) (d : TxSlot) → looked ≡ slots → IsFreeAt looked i → slots_taken slots < length slots
 one_is_free slots looked i d look at =
-    let p = position-Some is_free slots i d (ap (position is_free) (sym look) ∙ sym at) in
-    fewer slots i d p.0 p.1
+    let free = subst (λ (l : List TxSlot). IsFreeAt l i) look at in
+    fewer slots i d free.within (free.free d)
   where
     most : (slots : List TxSlot) → slots_taken slots ≤ length slots
     most [] = omega arith
@@ -182,13 +214,14 @@ own_slot slots looked count tx i d new is look at mine used =
     }
 
 -- a number that has none gets a slot that is free
-pub slot_given : (slots looked : List TxSlot) (count tx i : ℕ) (d new : TxSlot) → AreTxSlots slots count → looked ≡ slots → map.get (table_of slots) tx ≡ None → Some i ≡ position is_free looked → new.tx ≡ tx → is_free new ≡ false
+pub slot_given : (slots looked : List TxSlot) (count tx i : ℕ) (d new : TxSlot) → AreTxSlots slots count → looked ≡ slots → map.get (table_of slots) tx ≡ None → IsFreeAt looked i → new.tx ≡ tx → is_free new ≡ false
     → Changed slots (set slots i new) (count + 1) (map.insert (table_of slots) tx new.transaction.value)
 slot_given slots looked count tx i d new is look none at mine used =
-    let p = position-Some is_free slots i d (ap (position is_free) (sym look) ∙ sym at) in
+    let is_there = subst (λ (l : List TxSlot). IsFreeAt l i) look at in
+    let free = is_there.free d in
     let table : table_of (set slots i new) ≡ map.insert (table_of slots) tx new.transaction.value =
-    same_entries _ _ (λ u. taken slots tx i d new p.0 p.1 none mine used u ∙ sym (get_inserted (table_of slots) tx new.transaction.value u)) in
-    let more : slots_taken (set slots i new) ≡ slots_taken slots + 1 = grind (arith, p.1, taken-set slots i d new p.0) in
+    same_entries _ _ (λ u. taken slots tx i d new is_there.within free none mine used u ∙ sym (get_inserted (table_of slots) tx new.transaction.value u)) in
+    let more : slots_taken (set slots i new) ≡ slots_taken slots + 1 = grind (arith, free, taken-set slots i d new is_there.within) in
     record {
       makes = table;
       are_slots = record {

@@ -1,5 +1,5 @@
 -- The table that slots make.
-use Rattle.std.specs.Prelude.{◌≡◌, ℕ, ◌==◌, ◌+◌, ◌<◌, Bool, false, not, ◌&&◌, cond, Option, None, Some, List, [], ◌∷◌, length, slice_index_or}
+use Rattle.std.specs.Prelude.{◌≡◌, ℕ, ◌==◌, ◌+◌, ◌<◌, Bool, true, false, not, ◌&&◌, cond, Option, None, Some, List, [], ◌∷◌, length, slice_index_or}
 use Rattle.mlt_object_kinds.specs.declared.operation.{ObjOp.ObjOp, ObjReply.ObjReply}
 use Rattle.mlt_page.specs.declared.page.Page.{Page}
 use Rattle.mlt_page_subtx.specs.Images.{image_of}
@@ -29,10 +29,19 @@ slots_taken (slot ∷ slots) = cond (is_free slot) 0 1 + slots_taken slots
 abbrev pub entries_in : TxSlot → List (ObjOp × ObjReply)
 entries_in slot = cond (is_free slot) [] slot.transaction.value.undo.entries
 
--- each number has one slot at most, and so many are taken
+-- each number has one slot at most: they are as many
+abbrev pub HasOneEach : List TxSlot → Type 0
+HasOneEach slots = map.len (table_of slots) ≡ slots_taken slots
+
+-- and so many are taken
 pub record AreTxSlots (slots : List TxSlot) (taken : ℕ) : Type 0 where
-  pub one_each : map.len (table_of slots) ≡ slots_taken slots
+  pub one_each : HasOneEach slots
   pub counted : taken ≡ slots_taken slots
+
+-- the slot at this place is free
+pub record IsFreeAt (slots : List TxSlot) (place : ℕ) : Type 0 where
+  pub within : place < length slots
+  pub free : (d : TxSlot) → is_free (slice_index_or slots place d) ≡ true
 
 -- a transaction of this number, which has done nothing, lies there
 pub record BeginsInSlot (tx : ℕ) (slot : TxSlot) : Type 0 where

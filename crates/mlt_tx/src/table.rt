@@ -21,20 +21,23 @@ use mlt_event::Answer;
 use mlt_hash::Environment;
 use mlt_object_kinds::{Done, ObjOp, ObjReply};
 use mlt_page::Page;
-use mlt_types::{PageNo, Pseudo, Refusal, TxId};
+use mlt_types::{PageNo, PlaceHints, Pseudo, Refusal, TxId};
 use std::alloc::Global;
 use std::marker::Model;
 
 /// The open transactions. A contract sees a finite map from their numbers.
 ///
-/// There are so few at a time that the slot of one is found by going through all. That of a transaction that has ended is used
-/// again, with the room of its undo list.
+/// The slot of one is looked for first where it was put, as its number's last bits tell. That of a transaction that has ended is
+/// used again, with the room of its undo list.
 #[derive(Drop)]
 pub struct OpenTransactions {
     alloc: Global,
     slots: Vec<TxSlot>,
     /// How many slots are taken.
     taken: usize,
+    hints: PlaceHints,
+    /// The slot that was given up last.
+    freed: usize,
 }
 
 impl Model for OpenTransactions {
@@ -63,6 +66,8 @@ impl OpenTransactions {
             alloc,
             slots: Vec::new(alloc),
             taken: 0,
+            hints: PlaceHints::new(),
+            freed: 0,
         }
     }
 
@@ -77,7 +82,7 @@ impl OpenTransactions {
     pub fn get(&self, tx: TxId) -> Option<&Transaction>
         ensures { option_copied result ≡ map.get self.now tx }
     {
-        let place = slot_of(&self.slots, tx)?;
+        let place = slot_of(&self.slots, &self.hints, tx)?;
         Some(&self.slots[place].transaction)
     }
 
@@ -110,16 +115,18 @@ impl OpenTransactions {
         ensures err { OnErr result (self.new ≡ self.old) }
         ensures refusal { IsOkUnless result Refusal.OutOfMemory }
     {
-        if let Some(place) = slot_of(&self.slots, tx) {
+        if let Some(place) = slot_of(&self.slots, &self.hints, tx) {
             self.slots[place].transaction.restart(self.alloc, tx);
             return Ok(());
         }
-        if let Some(place) = free_slot(&self.slots) {
+        if let Some(place) = free_slot(&self.slots, self.freed) {
             self.slots[place].give_to(self.alloc, tx);
+            self.hints.note(tx, place);
             self.taken += 1;
             return Ok(());
         }
         let slot = TxSlot::new(self.alloc, tx)?;
+        self.hints.note(tx, self.slots.len());
         self.slots.push(slot)?;
         self.taken += 1;
         Ok(())
@@ -129,8 +136,9 @@ impl OpenTransactions {
     pub fn remove(&mut self, tx: TxId)
         ensures { self.new ≡ with_entry self.old tx None }
     {
-        if let Some(place) = slot_of(&self.slots, tx) {
+        if let Some(place) = slot_of(&self.slots, &self.hints, tx) {
             self.slots[place].is_free = true;
+            self.freed = place;
             self.taken -= 1;
         }
     }
@@ -151,7 +159,7 @@ impl OpenTransactions {
         ensures tries { TriesCall tx op max_ops self.old self.new shared.old shared.new result }
         ensures handed { shared.new.history.handed ≡ shared.old.history.handed }
     {
-        let Some(place) = slot_of(&self.slots, tx) else {
+        let Some(place) = slot_of(&self.slots, &self.hints, tx) else {
             return Err(Refusal::NoSuchTx);
         };
         let transaction = &self.slots[place].transaction;
@@ -187,7 +195,7 @@ impl OpenTransactions {
         ensures refusal { IsOkUnless result Refusal.OutOfMemory }
         ensures handed { shared.new.history.handed ≡ shared.old.history.handed }
     {
-        let Some(place) = slot_of(&self.slots, tx) else {
+        let Some(place) = slot_of(&self.slots, &self.hints, tx) else {
             unreachable!()
         };
         self.slots[place]
@@ -208,7 +216,7 @@ impl OpenTransactions {
             shared.old shared.new result }
         ensures handed { shared.new.history.handed ≡ shared.old.history.handed }
     {
-        match slot_of(&self.slots, tx) {
+        match slot_of(&self.slots, &self.hints, tx) {
             Some(place) => self.slots[place].transaction.step(shared, environment),
             None => unreachable!(),
         }
@@ -230,7 +238,7 @@ impl OpenTransactions {
             shared.old shared.new result }
         ensures handed { shared.new.history.handed ≡ shared.old.history.handed }
     {
-        let Some(place) = slot_of(&self.slots, tx) else {
+        let Some(place) = slot_of(&self.slots, &self.hints, tx) else {
             return Err(Refusal::NoSuchTx);
         };
         if let ActivityState::Idle = self.slots[place].transaction.at.state() {
@@ -247,7 +255,7 @@ impl OpenTransactions {
         ensures cancels { CancelsOne tx self.old self.new shared.old shared.new }
         ensures handed { shared.new.history.handed ≡ shared.old.history.handed }
     {
-        let Some(place) = slot_of(&self.slots, tx) else {
+        let Some(place) = slot_of(&self.slots, &self.hints, tx) else {
             unreachable!()
         };
         self.slots[place].transaction.cancel(shared);
@@ -258,7 +266,7 @@ impl OpenTransactions {
         requires is_open { IsSome (map.get self.old tx) }
         ensures puts { PutsOneAt tx (at.Undoing None) self.old self.new }
     {
-        let Some(place) = slot_of(&self.slots, tx) else {
+        let Some(place) = slot_of(&self.slots, &self.hints, tx) else {
             unreachable!()
         };
         self.slots[place].transaction.at.undo();

@@ -2,12 +2,12 @@
 
 ghost use Rattle.std.specs.Prelude.{◌≡◌, None, Some, IfOk, IfSome, IfNone, IsOkUnless, false, flat_map, length, position};
 ghost use Rattle.mlt_page_subtx.specs.Images.{image_of};
-ghost use Rattle.mlt_tx.specs.TxSlots.{BeginsInSlot, KeepsInSlot, LackImage, entries_in, is_free, is_slot_of};
+ghost use Rattle.mlt_tx.specs.TxSlots.{BeginsInSlot, HasOneEach, IsFreeAt, KeepsInSlot, LackImage, entries_in, is_free, is_slot_of};
 
 use crate::transaction::Transaction;
 use mlt_object_kinds::Done;
 use mlt_page::Page;
-use mlt_types::{PageNo, Refusal, TxId};
+use mlt_types::{PageNo, PlaceHints, Refusal, TxId};
 use std::alloc::{AllocError, Global};
 
 /// A slot for one open transaction, up to its end. Then it is free for another, with its memory. The transaction stays where it
@@ -74,15 +74,32 @@ impl TxSlot {
     }
 }
 
-/// Where the transaction of a number lies, if it is open.
-pub(crate) fn slot_of(slots: &[TxSlot], tx: TxId) -> Option<usize>
+/// Where the transaction of a number lies, if it is open. It is looked for first where it is hinted at.
+#[inline(always)]
+pub(crate) fn slot_of(slots: &[TxSlot], hints: &PlaceHints, tx: TxId) -> Option<usize>
+    requires { HasOneEach slots.now }
     ensures { result ≡ position (is_slot_of tx) slots.now }
 {
-    slots.iter().position(|slot| slot.is_of(tx))
+    let likely = hints.of(tx);
+    match slots.get(likely) {
+        Some(slot) if slot.is_of(tx) => Some(likely),
+        _ => slots.iter().position(|slot| slot.is_of(tx)),
+    }
 }
 
-/// A slot that is free, if there is one.
-pub(crate) fn free_slot(slots: &[TxSlot]) -> Option<usize>
+/// A slot that is free, if there is one: this one, if it is.
+pub(crate) fn free_slot(slots: &[TxSlot], likely: usize) -> Option<usize>
+    ensures free { IfSome result (IsFreeAt slots.now) }
+    ensures none { IfNone result (position is_free slots.now ≡ None) }
+{
+    match slots.get(likely) {
+        Some(slot) if slot.is_free => Some(likely),
+        _ => first_free(slots),
+    }
+}
+
+// The first slot that is free, if there is one.
+fn first_free(slots: &[TxSlot]) -> Option<usize>
     ensures { result ≡ position is_free slots.now }
 {
     slots.iter().position(|slot| slot.is_free)

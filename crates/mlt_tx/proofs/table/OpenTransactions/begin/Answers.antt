@@ -21,7 +21,7 @@ returns-in-Some-clause-begins c = record {
 
 pub overflow_add-self : goal.overflow_add-self
 overflow_add-self c =
-    let fewer = one_is_free c.self.inside.slots.items c.deref-2.result.now c.in-Some-free_slot.place c.index_mut-in-Some-free_slot.result.now c.deref-2.ensures.value c.in-Some-free_slot.ensures in
+    let fewer = one_is_free c.self.inside.slots.items c.deref-2.result.now c.in-Some-free_slot.place c.index_mut-in-Some-free_slot.result.now c.deref-2.ensures.value c.in-Some-free_slot.ensures.free in
     let counted = c.self.invariant.counted in
     let long : length c.deref.result.now ≡ length c.self.inside.slots.items = ap length c.deref.ensures.value in
     let bound = c.deref.type_inv.0 in
@@ -29,14 +29,14 @@ overflow_add-self c =
 
 pub invariant_of-self-in-Some-free_slot : goal.invariant_of-self-in-Some-free_slot
 invariant_of-self-in-Some-free_slot c = (slot_given c.self.inside.slots.items c.deref-2.result.now c.self.inside.taken c.args.tx c.in-Some-free_slot.place c.index_mut-in-Some-free_slot.result.now c.give_to.new.self c.self.invariant c.deref-2.ensures.value
-    (none_sits c.self.inside.slots.items c.deref.result.now c.args.tx c.deref.ensures.value (sym c.in_default.is ∙ c.slot_of.ensures)) c.in-Some-free_slot.ensures c.give_to.ensures.tx_is c.give_to.ensures.used).are_slots
+    (none_sits c.self.inside.slots.items c.deref.result.now c.args.tx c.deref.ensures.value (sym c.in_default.is ∙ c.slot_of.ensures)) c.in-Some-free_slot.ensures.free c.give_to.ensures.tx_is c.give_to.ensures.used).are_slots
 
 pub returns-in-Some-free_slot-clause-begins : goal.returns-in-Some-free_slot-clause-begins
 returns-in-Some-free_slot-clause-begins c = record {
   one = c.give_to.new.self.transaction.value;
   nothing = c.give_to.ensures.nothing;
   is = (slot_given c.self.inside.slots.items c.deref-2.result.now c.self.inside.taken c.args.tx c.in-Some-free_slot.place c.index_mut-in-Some-free_slot.result.now c.give_to.new.self c.self.invariant c.deref-2.ensures.value
-      (none_sits c.self.inside.slots.items c.deref.result.now c.args.tx c.deref.ensures.value (sym c.in_default.is ∙ c.slot_of.ensures)) c.in-Some-free_slot.ensures c.give_to.ensures.tx_is c.give_to.ensures.used).makes ∙ ap (λ (t : Table). map.insert t c.args.tx c.give_to.new.self.transaction.value) c.self.view_is;
+      (none_sits c.self.inside.slots.items c.deref.result.now c.args.tx c.deref.ensures.value (sym c.in_default.is ∙ c.slot_of.ensures)) c.in-Some-free_slot.ensures.free c.give_to.ensures.tx_is c.give_to.ensures.used).makes ∙ ap (λ (t : Table). map.insert t c.args.tx c.give_to.new.self.transaction.value) c.self.view_is;
 }
 
 pub overflow_add-self-2 : goal.overflow_add-self-2
