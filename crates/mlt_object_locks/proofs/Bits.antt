@@ -1,6 +1,7 @@
 -- Sets of classes as the bits of numbers.
 use Rattle.mlt_object_locks.proofs.Names.{zero, cases_eq, Adds, InSet, Meets}
 use Rattle.std.proofs.Common.{◌≡◌, ◌⊎◌, ℕ, suc, ◌/◌, ◌%◌, ◌*◌, ◌^◌, ◌<◌, ◌≤◌, bit_and, bit_or, w32, sym, subst, ◌∙◌, inl, inr, arith}
+use Rattle.mlt_object_locks.specs.Classes.{IsUnion}
 use Rattle.std.proofs.lemmas.Nat.Bits.{bit_at-lt, bit_at-zero, bit_at-suc, bit_at_lowest, bit_at_and, bit_at_or, bit_at_set_same, bit_at_set_other}
 
 -- nothing has no bit
@@ -44,3 +45,10 @@ adds_bit n k within = record {
     by : (j : ℕ) → InSet (bit_or n (1 * 2 ^ k % 2 ^ 32)) j → (j ≡ k) ⊎ (j ≡ k → ⊥) → InSet n j ⊎ (j ≡ k)
     by j h (inl e) = inr e
     by j h (inr ne) = inl (sym (bit_at_set_other w32 n k within j ne) ∙ h)
+
+-- what is in one of two sets is in both together
+pub both_together : (a b : ℕ) → IsUnion (bit_or a b) a b
+both_together a b = record {
+  has_one = λ k h. let e = bit_at_or a b k in let lt = bit_at-lt b k in omega arith;
+  has_other = λ k h. let e = bit_at_or a b k in let lt = bit_at-lt a k in omega arith;
+}

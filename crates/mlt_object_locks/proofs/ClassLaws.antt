@@ -86,6 +86,34 @@ below class = by (cases_lt (bit_of class) (length CLASSES))
 pub all_seen : (set : ℕ) (requested : Class) → HasMarked set requested CLASSES → IsColumn set requested
 all_seen set requested h = record { has = λ held m. h.has held (bit_of held, below held, at_its_bit held held) m; only = h.only }
 
+-- one held class alone is marked beside each of counters
+abbrev pub beside_counter : CounterClass → CounterClass
+beside_counter CounterClass.Counted = CounterClass.Read
+beside_counter CounterClass.Read = CounterClass.Counted
+
+is_beside : (requested : CounterClass) → marks (Counter (beside_counter requested)) (Counter requested) ≡ true
+is_beside CounterClass.Counted = refl
+is_beside CounterClass.Read = refl
+
+only_beside : (held : Class) (requested : CounterClass) → marks held (Counter requested) ≡ true → held ≡ Counter (beside_counter requested)
+only_beside (Account held) requested is = absurd (true≢false (sym is))
+only_beside (Element held) requested is = absurd (true≢false (sym is))
+only_beside (Counter CounterClass.Counted) CounterClass.Counted is = absurd (true≢false (sym is))
+only_beside (Counter CounterClass.Counted) CounterClass.Read is = refl
+only_beside (Counter CounterClass.Read) CounterClass.Counted is = refl
+only_beside (Counter CounterClass.Read) CounterClass.Read is = absurd (true≢false (sym is))
+only_beside Size requested is = absurd (true≢false (sym is))
+
+pub counter_column : (set : ℕ) (requested : CounterClass) → Adds 0 set (bit_of (Counter (beside_counter requested))) → IsColumn set (Counter requested)
+counter_column set requested adds = record {
+  has = λ held is. subst (λ c. InSet set (bit_of c)) (sym (only_beside held requested is)) adds.has;
+  only = λ k h. (Counter (beside_counter requested), by k (adds.only k h), is_beside requested);
+}
+  where
+    by : (k : ℕ) → InSet 0 k ⊎ (k ≡ bit_of (Counter (beside_counter requested))) → bit_of (Counter (beside_counter requested)) ≡ k
+    by k (inl h) = absurd (none_in_set k h)
+    by k (inr e) = sym e
+
 -- the column of a class has what hinders an operation of it
 pub column_in_the_way : (set : ℕ) (requested : ObjOp × ObjReply) (class : Class) → class_of requested ≡ Some class → IsColumn set class → AreInTheWay set requested
 column_in_the_way set requested class is column = record {

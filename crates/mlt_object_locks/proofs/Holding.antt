@@ -8,7 +8,7 @@ use Rattle.mlt_object_locks.proofs.Membership.{contains_cases, contains_first, c
 pub parts : (holder : Holder) → holder ≡ holder_of holder.tx holder.classes
 parts holder = refl
 
-is_it : (tx : ℕ) (holder : Holder) → is_of tx holder ≡ true → holder.tx ≡ tx
+pub is_it : (tx : ℕ) (holder : Holder) → is_of tx holder ≡ true → holder.tx ≡ tx
 is_it tx holder h = grind (arith, nat_tests)
 
 passes : (tx classes : ℕ) → is_of tx (holder_of tx classes) ≡ true

@@ -4,6 +4,7 @@ pub mod Bits
 pub mod ClassLaws
 pub mod Lowest
 pub mod Holding
+pub mod Covering
 pub mod Reservations
 pub mod Entries
 pub mod Found

@@ -79,7 +79,7 @@ module _ (holders : List Holder) (holder : Holder) (tx against : ℕ) where
   lowest_without lowest h s =
       lowest_of_first Before Own After still_stands (λ n own. subst After own.0 (own_stands own.1)) old_or_own lowest h (λ n own. s own.1)
 
-one_more : (holders : List Holder) (i : ℕ) (holder : Holder) → i < length holders → get_or holders i holder ≡ holder → take (i + 1) holders ≡ take i holders ++ holder ∷ []
+pub one_more : (holders : List Holder) (i : ℕ) (holder : Holder) → i < length holders → get_or holders i holder ≡ holder → take (i + 1) holders ≡ take i holders ++ holder ∷ []
 one_more holders i holder within is = take_more holders i holder within ∙ ap (λ x. take i holders ++ x ∷ []) is
 
 -- the same of the front of a list, with its next holder

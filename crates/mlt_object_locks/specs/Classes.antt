@@ -68,6 +68,11 @@ pub record AddsItem (old new : ℕ) (bit : Option ℕ) : Type 0 where
   pub keeps : (k : ℕ) → InSet old k → InSet new k
   pub only : (k : ℕ) → InSet new k → InSet old k ⊎ (bit ≡ Some k)
 
+-- the set has the bits of both others
+pub record IsUnion (set one other : ℕ) : Type 0 where
+  pub has_one : (k : ℕ) → InSet one k → InSet set k
+  pub has_other : (k : ℕ) → InSet other k → InSet set k
+
 -- two sets have a bit in common
 abbrev pub Meets : ℕ → ℕ → Type 0
 Meets one other = (k : ℕ) × InSet one k × InSet other k

@@ -19,6 +19,15 @@ IsHere holders tx = (classes : ℕ) × Contains holders (holder_of tx classes)
 abbrev pub HasBit : List Holder → ℕ → ℕ → Type 0
 HasBit holders tx bit = (classes : ℕ) × Contains holders (holder_of tx classes) × InSet classes bit
 
+-- the set has each bit that one of them holds
+abbrev pub Covers : ℕ → List Holder → Type 0
+Covers set holders = (tx bit : ℕ) → HasBit holders tx bit → InSet set bit
+
+-- each is there once, and together they hold no more than the set
+pub record AreWithin (holders : List Holder) (set : ℕ) : Type 0 where
+  pub once : AreOnce holders
+  pub covers : Covers set holders
+
 -- the transaction came, or was there; all else stays
 pub record Joins (old new : List Holder) (tx : ℕ) : Type 0 where
   pub here : IsHere new tx

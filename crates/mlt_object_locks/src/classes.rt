@@ -1,7 +1,7 @@
 //! Classes of operations of all kinds, and sets of them.
 
 ghost use Rattle.std.specs.Prelude.{◌≡◌, ◌↔◌, ◌<◌, IsTrue};
-ghost use Rattle.mlt_object_locks.specs.Classes.{bit_of, bit_of_item, class_of, marks, Adds, AddsItem, AreInTheWay, IsColumn, Meets};
+ghost use Rattle.mlt_object_locks.specs.Classes.{bit_of, bit_of_item, class_of, marks, Adds, AddsItem, AreInTheWay, IsColumn, IsUnion, Meets};
 
 use mlt_object_conflicts::{AccountClass, CounterClass, ElementClass, Table};
 use mlt_object_kinds::{Account, Counter, Done, Element, ObjOp, ObjReply};
@@ -40,7 +40,7 @@ const CLASSES: [Class; 19] = [
 ];
 
 /// A set of classes. A contract sees a number with a bit for each class in it.
-#[derive(Clone, Copy)]
+#[derive(Clone, Copy, PartialEq, Eq)]
 pub(crate) struct ClassSet {
     bits: u32,
 }
@@ -89,6 +89,15 @@ impl ClassSet {
         }
     }
 
+    /// The classes of both sets.
+    pub fn joined(self, other: ClassSet) -> ClassSet
+        ensures { IsUnion result self other }
+    {
+        ClassSet {
+            bits: self.bits | other.bits,
+        }
+    }
+
     /// Whether the two have a class in common.
     pub fn meets(&self, other: &ClassSet) -> bool
         ensures { IsTrue result ↔ Meets self.now other.now }
@@ -111,6 +120,9 @@ pub(crate) fn in_the_way_of(requested: &Done) -> ClassSet
 fn marked_beside(requested: Class) -> ClassSet
     ensures { IsColumn result requested }
 {
+    if let Class::Counter(requested) = requested {
+        return beside_counter(requested);
+    }
     let mut set = ClassSet::new();
     for held in &CLASSES {
         if are_marked(*held, requested) {
@@ -118,6 +130,17 @@ fn marked_beside(requested: Class) -> ClassSet
         }
     }
     set
+}
+
+// The same of a class of counters, on which many hold something at a time.
+fn beside_counter(requested: CounterClass) -> ClassSet
+    ensures { IsColumn result (Class.Counter requested) }
+{
+    let held = match requested {
+        CounterClass::Counted => CounterClass::Read,
+        CounterClass::Read => CounterClass::Counted,
+    };
+    ClassSet::new().with(Class::Counter(held))
 }
 
 // The class of an operation, where the table of its kind has one.

@@ -4,7 +4,7 @@ ghost use Rattle.std.specs.Prelude.{◌≡◌, ◌↔◌, ℕ, [], IsTrue, false
 ghost use Rattle.std.specs.List.{filter, list_all, list_any};
 ghost use Rattle.mlt_object_locks.specs.Locks.{lower_of, IsLowestOf};
 ghost use Rattle.mlt_object_locks.specs.Classes.{bit_of_item};
-ghost use Rattle.mlt_object_locks.specs.Holders.{AreOnce, IsHere, HasBit, Joins, Grants, IsLowestInTheWay, StandsAgainst, StandsIn, is_of, is_not_of, is_idle_of, is_not_idle_of};
+ghost use Rattle.mlt_object_locks.specs.Holders.{AreWithin, Covers, IsHere, HasBit, Joins, Grants, IsLowestInTheWay, StandsAgainst, StandsIn, is_of, is_not_of, is_idle_of, is_not_idle_of};
 
 use crate::classes::{ClassSet, in_the_way_of};
 use mlt_object_kinds::Done;
@@ -35,18 +35,20 @@ impl Default for Holder {
 #[derive(Drop)]
 pub(crate) struct Holders {
     holders: SmallVec<Holder, 4>,
+    /// What they hold together, and maybe more.
+    all: ClassSet,
 }
 
 impl Model for Holders {
     ghost use Rattle.std.specs.Prelude.{List};
     ghost use Rattle.mlt_object_locks.specs.declared.holders.Holder.{Holder};
-    ghost use Rattle.mlt_object_locks.specs.Holders.{AreOnce};
+    ghost use Rattle.mlt_object_locks.specs.Holders.{AreWithin};
 
     ghost Value = { List Holder };
 
     ghost view = { λ cell. cell.holders.items };
 
-    ghost invariant = { λ cell. AreOnce cell.holders.items };
+    ghost invariant = { λ cell. AreWithin cell.holders.items cell.all };
 }
 
 impl Holders {
@@ -57,7 +59,10 @@ impl Holders {
         let classes = ClassSet::new();
         let mut holders = SmallVec::new(alloc);
         holders.push_reserved(Holder { tx, classes });
-        Holders { holders }
+        Holders {
+            holders,
+            all: classes,
+        }
     }
 
     /// Whether there is nobody.
@@ -100,7 +105,11 @@ impl Holders {
         if self.is_alone(tx) {
             return None;
         }
-        lowest_in_the_way(&self.holders, tx, &in_the_way_of(done))
+        let against = in_the_way_of(done);
+        if !self.all.meets(&against) {
+            return None;
+        }
+        lowest_in_the_way(&self.holders, tx, &against)
     }
 
     /// The transaction holds one operation more. Whether it was idle.
@@ -110,7 +119,7 @@ impl Holders {
         ensures grants { Grants self.old self.new tx (bit_of_item done.now) }
         ensures idle { result ≡ false → (bit : ℕ) × HasBit self.old tx bit }
     {
-        grant_among(&mut self.holders, tx, done)
+        grant_among(&mut self.holders, &mut self.all, tx, done)
     }
 
     /// Takes the transaction away where it is idle.
@@ -124,7 +133,11 @@ impl Holders {
     pub fn release(&mut self, tx: TxId)
         ensures { self.new ≡ filter (is_not_of tx) self.old }
     {
-        self.holders.retain(|holder| holder.tx != tx);
+        let Some(at) = place_of(&self.holders, tx) else {
+            return;
+        };
+        self.holders.remove(at);
+        self.all = all_of(&self.holders, self.all);
     }
 }
 
@@ -155,12 +168,12 @@ fn lowest_in_the_way(holders: &[Holder], tx: TxId, against: &ClassSet) -> Option
     lowest
 }
 
-// The transaction, which is one of them, holds one operation more. Whether it was idle.
-fn grant_among(holders: &mut [Holder], tx: TxId, done: &Done) -> bool
+// The transaction, which is one of them, holds one operation more, and they all together. Whether it was idle.
+fn grant_among(holders: &mut [Holder], all: &mut ClassSet, tx: TxId, done: &Done) -> bool
     requires { IsHere holders.old tx }
     ensures grants { Grants holders.old holders.new tx (bit_of_item done.now) }
     ensures idle { result ≡ false → (bit : ℕ) × HasBit holders.old tx bit }
-    ensures once { AreOnce holders.old → AreOnce holders.new }
+    ensures within { AreWithin holders.old all.old → AreWithin holders.new all.new }
 {
     let Some(at) = place_of(holders, tx) else {
         unreachable!();
@@ -168,7 +181,23 @@ fn grant_among(holders: &mut [Holder], tx: TxId, done: &Done) -> bool
     let before = holders[at].classes;
     let classes = before.with_class_of(done);
     holders[at] = Holder { tx, classes };
+    *all = all.joined(classes);
     before.is_empty()
+}
+
+// What they hold together, or more, though no more than this.
+fn all_of(holders: &[Holder], most: ClassSet) -> ClassSet
+    requires { Covers most holders.now }
+    ensures { Covers result holders.now }
+{
+    let mut all = ClassSet::new();
+    for holder in holders {
+        all = all.joined(holder.classes);
+        if all == most {
+            return most;
+        }
+    }
+    all
 }
 
 // Where the transaction is among them.
