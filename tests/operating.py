@@ -280,7 +280,8 @@ def refused_clients_are_counted(mltx: Program) -> None:
 
 @test(seconds=6)
 def note_on_pages_that_get_few(mltx: Program) -> None:
-    """From nine in ten of the pages on it is noted once; not before, and clients go on. The directory is deep at once."""
+    """From nine in ten of the pages on it is noted once; not before, and clients go on. The directory is deep at once, which is
+    noted with the first operation that finds no room."""
     with operated(mltx, "--hash", "low", limit=2) as server, server.connect() as peer:
         most, before, pairs, begun = MOST_PAGES, 0, iter(range(32_768)), 0
         while 10 * (now := counts(server, "pages")["pages"]) < 9 * most:
@@ -290,15 +291,20 @@ def note_on_pages_that_get_few(mltx: Program) -> None:
             peer.send("".join(line + "\n" for line in ("begin", *(f"up {counter} 1" for counter in counters), "commit")))
             told = {peer.line() for _ in range(len(counters) + 2)}
             same(told, {f"begun {begun}", "done", f"committed {begun}"}, f"a client with {before} of {most} pages")
-            if begun == 1:
-                same(server.next_note(), DEEPEST)
+            same(counts(server, "depth", "no_room"), {"depth": 16, "no_room": 0}, "a deep directory")
         holds(is_noted(server, SLACK), f"nothing is noted with {now} of {most} pages")
         note = server.next_note()
         found = match(rf"^(\d+) of {most} pages are used$", note)
         holds(9 * most <= 10 * int(found[1]) <= 10 * now, f"{note}, with {before} and then {now} of {most} pages")
-        says(peer, "begin", f"begun {begun + 1}", "read 0", "is 1", "up 0 1", "done", "quit", "bye")
+        says(peer, "begin", f"begun {begun + 1}", "read 0", "is 1", "up 0 1", "done")
+        holds(not is_noted(server, 0.6), "something was noted before an operation found no room")
+        full = [f"up {65_536 * number} 1" for number in range(20_000, 20_009)]
+        peer.send("".join(line + "\n" for line in full))
+        same({peer.line() for _ in full} - {"done"}, {"error 2 NoRoom"}, "nine more counters of one pseudokey")
+        same([server.next_note(), server.next_note()], [DEEPEST, NO_ROOM])
+        says(peer, "quit", "bye")
         server.talk("quit\n")
-        expect(server.end(said=""), out="served 2\n", notes=[DEEPEST, note])
+        expect(server.end(said=""), out="served 2\n", notes=[note, DEEPEST, NO_ROOM])
 
 
 # What a server tells once `busy` has made these numbers, each another one but for zeros. Words in capitals are not known.

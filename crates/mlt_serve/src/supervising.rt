@@ -132,8 +132,8 @@ impl<P: Pseudo, L: MadeWith<P>, R: Wait + Clock> Supervisor<'_, '_, '_, P, L, R>
         }
     }
 
-    /// Tells once where nine in ten of the numbers are given out, or of the pages are used, where the directory is as deep as it may
-    /// be, and where an operation was refused for want of room or of memory, or a begin since all numbers are used.
+    /// Tells once where nine in ten of the numbers are given out, or of the pages are used, where an operation was refused for want of
+    /// room, or of memory, or a begin since all numbers are used, and of the first of these where the directory is as deep as it may be.
     fn warn(&mut self) {
         let totals = self.service.seats.totals(self.rt);
         let statistics = self.service.shared.statistics(self.rt);
@@ -144,6 +144,7 @@ impl<P: Pseudo, L: MadeWith<P>, R: Wait + Clock> Supervisor<'_, '_, '_, P, L, R>
             u64::from(statistics.depth),
             u64::from(options.limits.max_depth),
         );
+        let is_full = totals.no_room > 0;
         let warnings = [
             (
                 is_nearly(begun, most_begun),
@@ -153,8 +154,11 @@ impl<P: Pseudo, L: MadeWith<P>, R: Wait + Clock> Supervisor<'_, '_, '_, P, L, R>
                 is_nearly(pages, most_pages),
                 Note::FewPagesLeft(pages, most_pages),
             ),
-            (depth >= most_depth, Note::DeepestDirectory(most_depth)),
-            (totals.no_room > 0, Note::NoRoom),
+            (
+                is_full && depth >= most_depth,
+                Note::DeepestDirectory(most_depth),
+            ),
+            (is_full, Note::NoRoom),
             (totals.no_memory > 0, Note::NoMemory),
             (totals.no_number > 0, Note::NoNumber),
         ];
