@@ -510,6 +510,7 @@ def server_saves_while_it_runs(mltx: Program, is_endless: bool) -> None:
     saved = Path(mltx.file("base", ""))
     words = ["--load", mltx.file("base", BASE), "--save", saved, *["--endless"] * is_endless]
     with operated(held(mltx), *words, limit=None if is_endless else 2) as server:
+        comes(server, "/status", lambda told: told["loading"] == 0, "the base is loaded")
         same(asked(server, "/status")["saves"], 1, "whether it saves")
         with server.connect() as peer, server.connect() as other:
             same((saved_now(server), saved.read_text()), (1, BASE), "before anything is done")
