@@ -26,7 +26,7 @@ STORED = {
     "split-beside-a-reader": "A bucket is split while another transaction reads",
 }
 # Those that show what was measured, which are not there before it was.
-MEASURED = ["hotspots", "ablation"]
+MEASURED = ["hotspots", "growth", "ablation"]
 SCHEDULES = {name: words[1:] for name, words in EXAMPLES.items() if words[0] == "steps"}
 # What stands at the points of their arrows.
 HELD = {"block-by-reply.txt": ["holds withdraw 101 30"], "wait-for-a-page.txt": ["holds the page"]}
