@@ -1092,7 +1092,9 @@ def operator_stops_a_server_that_has_no_memory_left(mltx: Program) -> None:
     """However much it may hold, the command comes to its end. That an operation was refused memory is noted, once."""
     noted = list[str]()
     for most in range(350_000, 600_000, 50_000):
-        with mltx.serve("--sessions", 2, limit=9, admin=free_address(), env=mltx.shim(MOST=str(most)), timeout=SLACK) as server:
+        # Sessions have 3 seconds to end by themselves.
+        limited = mltx.shim(MOST=str(most))
+        with mltx.serve("--sessions", 2, limit=9, admin=free_address(), env=limited, timeout=3 + SLACK) as server:
             with server.connect() as peer:
                 # Meanwhile the threads begin that answer an operator, and keep some memory.
                 time.sleep(0.5)
